@@ -1,0 +1,117 @@
+-- `answer::figures` answers its definition, case by case.
+use borrow.Author.Needs.{needs}
+use Rattle.answer.proofs.figures.Statement.{statement}
+use Rattle.answer.proofs.figures.Tie as tie
+
+enum-told : tie.Need-enum-told
+enum-told c = search needs
+
+none-requires : tie.Need-none-requires
+none-requires c κs = search needs
+
+enum-told-2 : tie.Need-enum-told-2
+enum-told-2 c = search needs
+
+none-requires-2 : tie.Need-none-requires-2
+none-requires-2 c κs = search needs
+
+enum-known-r : tie.Need-enum-known-r
+enum-known-r c = search needs
+
+of-place-requires : tie.Need-of-place-requires
+of-place-requires c κs = search needs
+
+enum-known-r-2 : tie.Need-enum-known-r-2
+enum-known-r-2 c = search needs
+
+of-pair-requires : tie.Need-of-pair-requires
+of-pair-requires c κs = search needs
+
+enum-known-r-3 : tie.Need-enum-known-r-3
+enum-known-r-3 c = search needs
+
+of-clash-requires : tie.Need-of-clash-requires
+of-clash-requires c κs = search needs
+
+enum-told-3 : tie.Need-enum-told-3
+enum-told-3 c = search needs
+
+none-requires-3 : tie.Need-none-requires-3
+none-requires-3 c κs = search needs
+
+enum-told-4 : tie.Need-enum-told-4
+enum-told-4 c = search needs
+
+none-requires-4 : tie.Need-none-requires-4
+none-requires-4 c κs = search needs
+
+enum-told-5 : tie.Need-enum-told-5
+enum-told-5 c = search needs
+
+none-requires-5 : tie.Need-none-requires-5
+none-requires-5 c κs = search needs
+
+enum-known-r-4 : tie.Need-enum-known-r-4
+enum-known-r-4 c = search needs
+
+one-requires : tie.Need-one-requires
+one-requires c κs = search needs
+
+returns : tie.Need-returns
+returns c = rw (c .before .enum-told .given .1) (c .none .ensures)
+
+returns-2 : tie.Need-returns-2
+returns-2 c = rw (c .before .enum-told2 .given .1) (c .none2 .ensures)
+
+returns-3 : tie.Need-returns-3
+returns-3 c = rw (c .before .before .r .given .1) (c .of-place .ensures)
+
+returns-4 : tie.Need-returns-4
+returns-4 c = rw (c .before .before .r2 .given .1) (c .of-pair .ensures)
+
+returns-5 : tie.Need-returns-5
+returns-5 c = rw (c .before .before .r3 .given .1) (c .of-clash .ensures)
+
+returns-6 : tie.Need-returns-6
+returns-6 c = rw (c .before .enum-told3 .given .1) (c .none3 .ensures)
+
+returns-7 : tie.Need-returns-7
+returns-7 c = rw (c .before .enum-told4 .given .1) (c .none4 .ensures)
+
+returns-8 : tie.Need-returns-8
+returns-8 c = rw (c .before .enum-told5 .given .1) (c .none5 .ensures)
+
+returns-9 : tie.Need-returns-9
+returns-9 c = rw (c .before .before .r4 .given .1) (c .one .ensures)
+
+pub figures-spec : {M : Type 1} → statement M
+figures-spec =
+    tie.close
+    (tie.spec
+    enum-told
+    none-requires
+    enum-told-2
+    none-requires-2
+    enum-known-r
+    of-place-requires
+    enum-known-r-2
+    of-pair-requires
+    enum-known-r-3
+    of-clash-requires
+    enum-told-3
+    none-requires-3
+    enum-told-4
+    none-requires-4
+    enum-told-5
+    none-requires-5
+    enum-known-r-4
+    one-requires
+    returns
+    returns-2
+    returns-3
+    returns-4
+    returns-5
+    returns-6
+    returns-7
+    returns-8
+    returns-9)

@@ -1,0 +1,47 @@
+-- Laws of definitions by tests.
+use mathlib.Core.Path.{_≡_, refl, sym}
+use mathlib.Core.Bool.{Bool, true, false}
+use Prim.Native.Nat.{ℕ}
+use lib.Dec.{eqb, ltb}
+use borrow.Author.Tests.{eq-eqb, ne-eqb, eqb-true, eqb-false, lt-ltb, le-ltb, ltb-true, ltb-false}
+use Prim.Native.Nat.{_<_, _≤_}
+use native.Mathlib.Omega.{arith}
+use Rattle.decimal.specs.Choice.{if_then_else_}
+
+-- what holds of both branches, each where its test says so, holds of the choice
+pub choice : {A : Type 0} (P : A → Type 0) (b : Bool) {x y : A} → (b ≡ true → P x) → (b ≡ false → P y) → P (if b then x else y)
+choice P true f g = f refl
+choice P false f g = g refl
+
+-- a test either holds or fails
+pub tested : {A : Type 0} (b : Bool) → (b ≡ true → A) → (b ≡ false → A) → A
+tested true f g = f refl
+tested false f g = g refl
+
+-- a test does not both hold and fail
+pub not-both : {A : Type 0} {b : Bool} → b ≡ true → b ≡ false → A
+not-both {A} {b} t f = absurd (no (sym t) f)
+  where
+    no : true ≡ b → b ≡ false → ⊥
+    no p q =
+        let z : _≡_ {A = ℕ} 0 1 = differ (cc) in
+        omega arith
+      where
+        differ : true ≡ false → _≡_ {A = ℕ} 0 1
+        differ e = cc
+
+-- two tests that say the same are equal
+pub eqb-same : (a b c d : ℕ) → (a ≡ b → c ≡ d) → (c ≡ d → a ≡ b) → eqb a b ≡ eqb c d
+eqb-same a b c d to back =
+    tested (eqb a b) (λ e. rw e (sym (eq-eqb c d (to (eqb-true a b e))))) (λ e. rw e (sym (ne-eqb c d (λ k. eqb-false a b e (back k)))))
+
+pub ltb-same : (a b c d : ℕ) → (a < b → c < d) → (c < d → a < b) → ltb a b ≡ ltb c d
+ltb-same a b c d to back =
+    tested (ltb a b) (λ e. rw e (sym (lt-ltb c d (to (ltb-true a b e)))))
+    (λ e. rw e (sym (le-ltb c d (other (ltb-false a b e)))))
+  where
+    other : b ≤ a → d ≤ c
+    other h = tested (ltb c d) (λ e. absurd (no (back (ltb-true c d e)))) (λ e. ltb-false c d e)
+      where
+        no : a < b → ⊥
+        no k = omega arith

@@ -1,0 +1,69 @@
+-- Laws of the decimal digits of a number.
+use mathlib.Core.Path.{_≡_, refl, sym, ap, _∙_}
+use mathlib.Core.List.{List, [], _∷_, _++_, append-nil}
+use Prim.Native.Nat.{ℕ, zero, suc, _+_, _*_, _-_, _/_, _%_, _^_, _≤_, _<_}
+use native.Mathlib.Omega.{arith}
+use native.Mathlib.Nat.{pow-suc, mod-one, mod-lt, mod-eq-of-lt}
+use native.Mathlib.Numerals.{add-one}
+use lib.Arith.{mod-mul, digits-div, digits-mod}
+use lib.ListN.{length, getD, take, drop, set, length-append, length-set}
+use lib.Seq.{drop-cons, drop-length, append-snoc, getD-set-same, drop-set-lt, take-suc, take-length}
+use Rattle.decimal.specs.Digits.{isDigit, run, valueFrom, value, figures, AllDigits, wide, numeral}
+use Rattle.decimal.proofs.Runs.{digits-append, digits-cons, digit-is, digit-bounds, digits-head, digits-take}
+use Rattle.decimal.proofs.Values.{value-snoc, power-pos, ten-pos}
+use Rattle.decimal.proofs.Zeros.{value-shown}
+
+pub length-figures : (k n : ℕ) → length (figures k n) ≡ k
+length-figures zero n = refl
+length-figures (suc k) n = simp (length-append, length-figures k (n / 10), add-one)
+
+pub digits-figures : (k n : ℕ) → AllDigits (figures k n)
+digits-figures zero n = refl
+digits-figures (suc k) n =
+    digits-append (figures k (n / 10)) ((48 + n % 10) ∷ []) (digits-figures k (n / 10))
+    (digits-cons (48 + n % 10) [] (digit-is (n % 10) (omega arith)) refl)
+
+-- the last k digits spell the remainder by 10 ^ k
+pub value-figures : (k n : ℕ) → value (figures k n) ≡ n % 10 ^ k
+value-figures zero n = sym (mod-one n)
+value-figures (suc k) n =
+    value-snoc 0 (figures k (n / 10)) (48 + n % 10)
+    ∙ rw (value-figures k (n / 10), pow-suc 10 k, mod-mul n (power-pos k) ten-pos) (omega arith)
+
+pub value-numeral : (n : ℕ) → n < 10 ^ wide → value (numeral n) ≡ n
+value-numeral n h = value-shown 1 (figures wide n) ∙ value-figures wide n ∙ mod-eq-of-lt h
+
+-- digits are those of their value
+figures-snoc : (k m d : ℕ) → d < 10 → figures (suc k) (10 * m + d) ≡ figures k m ++ ((48 + d) ∷ [])
+figures-snoc k m d h =
+    let q : (10 * m + d) / 10 ≡ m = omega arith in
+    let r : (10 * m + d) % 10 ≡ d = omega arith in
+    rw (q, r)
+
+pub figures-value : (k : ℕ) (s : List ℕ) → AllDigits s → k ≤ length s → figures k (value (take k s)) ≡ take k s
+figures-value zero s e h = refl
+figures-value (suc k) s e h =
+    let b = getD s k 0 in
+    let p : take (suc k) s ≡ take k s ++ (b ∷ []) = take-suc s k 0 (omega arith) in
+    let d = last-digit (take k s) b (rw p at (digits-take (suc k) s e)) in
+    let w : 48 + (b - 48) ≡ b = omega (arith, d) in
+    rw (p, value-snoc 0 (take k s) b, figures-snoc k (value (take k s)) (b - 48) (omega (arith, d)), figures-value k s e (omega arith), w)
+  where
+    last-digit : (t : List ℕ) (b : ℕ) → AllDigits (t ++ (b ∷ [])) → (48 ≤ b) × (b < 58)
+    last-digit [] b x = digit-bounds b (digits-head b [] x .0)
+    last-digit (y ∷ t) b x = last-digit t b (digits-head y (t ++ (b ∷ [])) x .1)
+
+pub figures-of : (s : List ℕ) → AllDigits s → figures (length s) (value s) ≡ s
+figures-of s e = rw take-length at (figures-value (length s) s e (omega arith))
+
+-- ---- filling an area from its end
+
+pub figures-start : (n : ℕ) (o : List ℕ) → figures (length o) n ++ drop (length o) o ≡ figures (length o) n
+figures-start n o = rw (drop-length o) (append-nil (figures (length o) n))
+
+pub figures-again : (m i j : ℕ) (o : List ℕ) → i ≡ suc j → j < length o
+    → figures j (m / 10) ++ drop j (set o j (48 + m % 10)) ≡ figures i m ++ drop i o
+figures-again m i j o e h =
+    let x = 48 + m % 10 in
+    rw (e, drop-cons (set o j x) j 0 (simp length-set h), getD-set-same o j x 0 h, drop-set-lt (suc j) o j x (omega arith))
+    (sym (append-snoc (figures j (m / 10)) x (drop (suc j) o)))

@@ -1,0 +1,5 @@
+pub mod Choices
+pub mod Runs
+pub mod Values
+pub mod Zeros
+pub mod Figured
