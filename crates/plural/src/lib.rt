@@ -1,0 +1,1 @@
+// Chooses the plural word of a number.

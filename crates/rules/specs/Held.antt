@@ -1,0 +1,54 @@
+-- The rules that a parsed pack's arrays hold.
+use mathlib.Core.Bool.{Bool}
+use mathlib.Core.List.{List, [], _∷_}
+use Prim.Native.Nat.{ℕ, zero, suc, _-_}
+use lib.ListN.{take, drop}
+use Rattle.answer.specs.declared.Keyword.{Keyword}
+use Rattle.answer.specs.declared.Keyword.the-variants.{Zero, One, Two, Few, Many, Other}
+use Rattle.rules.specs.Syntax.{Range, Relation, Rule}
+use Rattle.rules.specs.declared.Pack.{Pack}
+
+-- the parts of a list that end at these places, one behind the other, the first beginning at `from`
+abbrev pub parts : {A : Type 0} → ℕ → List ℕ → List A → List (List A)
+parts from [] xs = []
+parts from (end ∷ ends) xs = take (end - from) (drop from xs) ∷ parts end ends xs
+
+-- keywords by number, in document 01's order
+abbrev pub keywordOf : ℕ → Keyword
+keywordOf 0 = Zero
+keywordOf 1 = One
+keywordOf 2 = Two
+keywordOf 3 = Few
+keywordOf 4 = Many
+keywordOf (suc (suc (suc (suc (suc k))))) = Other
+
+abbrev pub rangesFrom : List ℕ → List ℕ → List Range
+rangesFrom [] highs = []
+rangesFrom (a ∷ lows) [] = []
+rangesFrom (a ∷ lows) (b ∷ highs) = record { low = a; high = b } ∷ rangesFrom lows highs
+
+abbrev pub relationsFrom : List ℕ → List ℕ → List Bool → List (List Range) → List Relation
+relationsFrom [] ms ns rs = []
+relationsFrom (o ∷ os) [] ns rs = []
+relationsFrom (o ∷ os) (m ∷ ms) [] rs = []
+relationsFrom (o ∷ os) (m ∷ ms) (n ∷ ns) [] = []
+relationsFrom (o ∷ os) (m ∷ ms) (n ∷ ns) (r ∷ rs) =
+    record { operand = o; modulus = m; negated = n; ranges = r } ∷ relationsFrom os ms ns rs
+
+abbrev pub rulesFrom : List ℕ → List (List (List Relation)) → List Rule
+rulesFrom [] cs = []
+rulesFrom (k ∷ ks) [] = []
+rulesFrom (k ∷ ks) (c ∷ cs) = record { keyword = keywordOf k; clauses = c } ∷ rulesFrom ks cs
+
+abbrev pub heldRanges : Pack → List Range
+heldRanges p = rangesFrom (p .low) (p .high)
+
+abbrev pub heldRelations : Pack → List Relation
+heldRelations p = relationsFrom (p .operand) (p .modulus) (p .negated) (parts 0 (p .ranges) (heldRanges p))
+
+abbrev pub heldClauses : Pack → List (List Relation)
+heldClauses p = parts 0 (p .relations) (heldRelations p)
+
+-- the pack's rules, in the order of the text
+abbrev pub heldRules : Pack → List Rule
+heldRules p = rulesFrom (take (p .count) (p .keyword)) (parts 0 (p .clauses) (heldClauses p))
