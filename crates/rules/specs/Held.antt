@@ -1,8 +1,10 @@
 -- The rules that a parsed pack's arrays hold.
 use mathlib.Core.Bool.{Bool}
 use mathlib.Core.List.{List, [], _∷_}
-use Prim.Native.Nat.{ℕ, zero, suc, _-_}
+use Prim.Native.Nat.{ℕ, _-_}
+use lib.Dec.{eqb}
 use lib.ListN.{take, drop}
+use Rattle.decimal.specs.Choice.{if_then_else_}
 use Rattle.answer.specs.declared.Keyword.{Keyword}
 use Rattle.answer.specs.declared.Keyword.the-variants.{Zero, One, Two, Few, Many, Other}
 use Rattle.rules.specs.Syntax.{Range, Relation, Rule}
@@ -15,12 +17,13 @@ parts from (end ∷ ends) xs = take (end - from) (drop from xs) ∷ parts end en
 
 -- keywords by number, in document 01's order
 abbrev pub keywordOf : ℕ → Keyword
-keywordOf 0 = Zero
-keywordOf 1 = One
-keywordOf 2 = Two
-keywordOf 3 = Few
-keywordOf 4 = Many
-keywordOf (suc (suc (suc (suc (suc k))))) = Other
+keywordOf k =
+    if eqb k 0 then Zero else
+    if eqb k 1 then One else
+    if eqb k 2 then Two else
+    if eqb k 3 then Few else
+    if eqb k 4 then Many else
+    Other
 
 abbrev pub rangesFrom : List ℕ → List ℕ → List Range
 rangesFrom [] highs = []
