@@ -3,15 +3,12 @@
 // The entry is read_number. specs/Grammar.antt says what a number's text is, specs/Reading.antt what
 // is read of it, specs/Limits.antt the limits, each of which is one constant here.
 ghost use mathlib.Core.Path.{_≡_};
-ghost use mathlib.Core.Bool.{Bool};
-ghost use mathlib.Core.List.{[], _++_};
-ghost use mathlib.Core.Option.{some};
 ghost use Prim.Native.Nat.{_≤_};
-ghost use lib.ListN.{length};
-ghost use Rattle.decimal.specs.Digits.{AllDigits, value};
+ghost use Rattle.decimal.specs.Choice.{both};
+ghost use Rattle.decimal.specs.Digits.{AllDigits};
 ghost use Rattle.number.specs.Limits.{maxExponent};
-ghost use Rattle.number.specs.Grammar.{Parts, isMark, isExponent};
-ghost use Rattle.number.specs.Reading.{exponentAt, fractionAt, pointAt, wholeAt, exponentAfterZero, judge, judged, readNumber};
+ghost use Rattle.number.specs.Grammar.{isMark, isExponent};
+ghost use Rattle.number.specs.Reading.{partsFrom, exponentAt, fractionAt, pointAt, wholeAt, afterZero, sized, judge, judged, readNumber};
 use answer::NumberRow;
 use answer::Refusal;
 use decimal::DigitValue;
@@ -45,4 +42,157 @@ fn refuse(row: NumberRow) -> Reading
     ensures { λ r. ⌜ r ≡ Reading.Refused (Refusal.Number row) ⌝ }
 {
     Reading::Refused(Refusal::Number(row))
+}
+
+// `c` or `e`
+fn is_mark(b: u8) -> bool
+    ensures { λ r. ⌜ r ≡ isMark b ⌝ }
+{
+    if b == 99 {
+        return true;
+    }
+    b == 101
+}
+
+fn is_exponent(s: &[u8]) -> bool
+    ensures { λ r. ⌜ r ≡ isExponent (now (s .entry)) ⌝ }
+{
+    if s.len() == 0 {
+        return false;
+    }
+    if s[0] == 48 {
+        return false;
+    }
+    decimal::scan::digit_run(s) == s.len()
+}
+
+// A mark, and an exponent behind it.
+fn marks_exponent(b: u8, s: &[u8]) -> bool
+    ensures { λ r. ⌜ r ≡ both (isMark b) (isExponent (now (s .entry))) ⌝ }
+{
+    if is_mark(b) {
+        return is_exponent(s);
+    }
+    false
+}
+
+// An exponent is written after a zero integer part.
+fn after_zero(whole: &[u8], exponent: &[u8]) -> bool
+    ensures { λ r. ⌜ r ≡ afterZero (now (whole .entry)) (now (exponent .entry)) ⌝ }
+{
+    if exponent.len() == 0 {
+        return false;
+    }
+    decimal::value::value_of(whole) == 0
+}
+
+// The number with its point shifted e places to the right.
+fn shifted(negative: bool, whole: &[u8], fraction: &[u8], e: u64) -> Reading
+    requires { ⌜ (e ≤ maxExponent) × AllDigits (now whole) × AllDigits (now fraction) ⌝ }
+    ensures { λ r. ⌜ r ≡ sized negative (now (whole .entry)) (now (fraction .entry)) e ⌝ }
+{
+    let places = e as usize;
+    let i = decimal::value::value_first(decimal::value::value_of(whole), places, fraction);
+    if INTEGER_LIMIT <= i {
+        return refuse(NumberRow::IntegerTooLong);
+    }
+    let rest = decimal::cut::after(fraction, places);
+    let v = rest.len();
+    if MAX_PLACES < v {
+        return refuse(NumberRow::FractionTooLong);
+    }
+    let w = decimal::scan::trimmed_len(rest);
+    let f = decimal::value::value_of(rest);
+    let t = decimal::value::value_of(decimal::cut::upto(rest, w));
+    Reading::Is(Number {
+        negative: negative,
+        e: e as u8,
+        i: i,
+        v: Places(v as u8),
+        f: DigitValue(f),
+        w: Places(w as u8),
+        t: DigitValue(t),
+    })
+}
+
+// The parts are told: refusals 12 to 15, or the number.
+fn parted(negative: bool, whole: &[u8], fraction: &[u8], exponent: &[u8]) -> Reading
+    requires { ⌜ AllDigits (now whole) × AllDigits (now fraction) ⌝ }
+    ensures { λ r. ⌜ r ≡ judge (partsFrom negative (now (whole .entry)) (now (fraction .entry)) (now (exponent .entry))) ⌝ }
+{
+    let e = decimal::value::value_of(exponent);
+    if MAX_EXPONENT < e {
+        return refuse(NumberRow::ExponentTooLarge);
+    }
+    if after_zero(whole, exponent) {
+        return refuse(NumberRow::ExponentAfterZero);
+    }
+    shifted(negative, whole, fraction, e)
+}
+
+fn read_exponent(negative: bool, whole: &[u8], fraction: &[u8], s: &[u8]) -> Reading
+    requires { ⌜ AllDigits (now whole) × AllDigits (now fraction) ⌝ }
+    ensures { λ r. ⌜ r ≡ judged (exponentAt negative (now (whole .entry)) (now (fraction .entry)) (now (s .entry))) ⌝ }
+{
+    if s.len() == 0 {
+        return parted(negative, whole, fraction, s);
+    }
+    let x = decimal::cut::after(s, 1);
+    if marks_exponent(s[0], x) {
+        return parted(negative, whole, fraction, x);
+    }
+    refuse(NumberRow::NotANumber)
+}
+
+fn read_fraction(negative: bool, whole: &[u8], s: &[u8]) -> Reading
+    requires { ⌜ AllDigits (now whole) ⌝ }
+    ensures { λ r. ⌜ r ≡ judged (fractionAt negative (now (whole .entry)) (now (s .entry))) ⌝ }
+{
+    let n = decimal::scan::digit_run(s);
+    if n == 0 {
+        return refuse(NumberRow::NotANumber);
+    }
+    read_exponent(
+        negative,
+        whole,
+        decimal::cut::upto(s, n),
+        decimal::cut::after(s, n),
+    )
+}
+
+fn read_point(negative: bool, whole: &[u8], s: &[u8]) -> Reading
+    requires { ⌜ AllDigits (now whole) ⌝ }
+    ensures { λ r. ⌜ r ≡ judged (pointAt negative (now (whole .entry)) (now (s .entry))) ⌝ }
+{
+    if decimal::cut::begins_with(s, 46) {
+        return read_fraction(negative, whole, decimal::cut::after(s, 1));
+    }
+    read_exponent(negative, whole, decimal::cut::upto(s, 0), s)
+}
+
+fn read_whole(negative: bool, s: &[u8]) -> Reading
+    ensures { λ r. ⌜ r ≡ judged (wholeAt negative (now (s .entry))) ⌝ }
+{
+    let n = decimal::scan::digit_run(s);
+    if n == 0 {
+        return refuse(NumberRow::NotANumber);
+    }
+    read_point(
+        negative,
+        decimal::cut::upto(s, n),
+        decimal::cut::after(s, n),
+    )
+}
+
+// The number that a text spells, or refusals 10 to 15 in the order of the table.
+pub fn read_number(text: &[u8]) -> Reading
+    ensures { λ r. ⌜ r ≡ readNumber (now (text .entry)) ⌝ }
+{
+    if MAX_BYTES < text.len() {
+        return refuse(NumberRow::NumberTooLong);
+    }
+    if decimal::cut::begins_with(text, 45) {
+        return read_whole(true, decimal::cut::after(text, 1));
+    }
+    read_whole(false, text)
 }

@@ -1,0 +1,44 @@
+-- `number::read_fraction` answers what is read behind the point.
+use borrow.Author.Tests.{eq-eqb, ne-eqb}
+use Rattle.decimal.specs.Digits.{AllDigits, run}
+use lib.ListN.{take}
+use Rattle.decimal.proofs.Runs.{digits-run}
+use borrow.Author.Needs.{needs}
+use Rattle.number.proofs.read_fraction.Statement.{statement}
+use Rattle.number.proofs.read_fraction.Tie as tie
+
+digit-run-requires : tie.Need-digit-run-requires
+digit-run-requires c κs = search needs
+
+refuse-requires : tie.Need-refuse-requires
+refuse-requires c κs = search needs
+
+returns : tie.Need-returns
+returns c = simp (← (c .before .before .digit-run .ensures .0), eq-eqb _ _ (c .before .if1 .taken), c .refuse .ensures)
+
+upto-requires : tie.Need-upto-requires
+upto-requires c κs = search needs
+
+after-requires : tie.Need-after-requires
+after-requires c κs = search needs
+
+read-exponent-requires : tie.Need-read-exponent-requires
+read-exponent-requires c κs =
+    let s = c .before .before .before .before .before .before .args .s .now in
+    (c .before .before .before .before .before .before .pre, rw (c .before .upto .ensures, c .before .before .before .digit-run .ensures .0) (digits-run s))
+
+returns-2 : tie.Need-returns-2
+returns-2 c =
+    simp (← (c .before .before .before .before .digit-run .ensures .0), ne-eqb _ _ (c .before .before .before .if1 .left), c .read-exponent .ensures, c .before .after .ensures, c .before .before .upto .ensures)
+
+pub read-fraction-spec : {M : Type 1} → statement M
+read-fraction-spec =
+    tie.close
+    (tie.spec
+    digit-run-requires
+    refuse-requires
+    returns
+    upto-requires
+    after-requires
+    read-exponent-requires
+    returns-2)
