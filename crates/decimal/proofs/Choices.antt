@@ -13,6 +13,12 @@ pub choice : {A : Type 0} (P : A → Type 0) (b : Bool) {x y : A} → (b ≡ tru
 choice P true f g = f refl
 choice P false f g = g refl
 
+-- and what relates both branches of two choices by one test relates the choices
+pub choices : {A : Type 0} (R : A → A → Type 0) (b : Bool) {x y x′ y′ : A} → (b ≡ true → R x x′) → (b ≡ false → R y y′)
+    → R (if b then x else y) (if b then x′ else y′)
+choices R true f g = f refl
+choices R false f g = g refl
+
 -- a test either holds or fails
 pub tested : {A : Type 0} (b : Bool) → (b ≡ true → A) → (b ≡ false → A) → A
 tested true f g = f refl

@@ -1,17 +1,20 @@
 -- Laws of the decimal digits of a number.
 use mathlib.Core.Path.{_≡_, refl, sym, ap, _∙_}
 use mathlib.Core.List.{List, [], _∷_, _++_, append-nil}
-use Prim.Native.Nat.{ℕ, zero, suc, _+_, _*_, _-_, _/_, _%_, _^_, _≤_, _<_}
+use Prim.Native.Nat.{ℕ, zero, suc, _+_, _*_, _-_, _/_, _%_, _^_, _≤_, _<_, min}
 use native.Mathlib.Omega.{arith}
-use native.Mathlib.Nat.{pow-suc, mod-one, mod-lt, mod-eq-of-lt}
+use native.Mathlib.Nat.{pow-suc, mod-one, mod-le, mod-eq-of-lt}
+use lib.Dec.{ltb}
+use borrow.Author.Tests.{ltb-true, ltb-false}
 use native.Mathlib.Numerals.{add-one}
 use lib.Arith.{mod-mul, digits-div, digits-mod}
-use lib.ListN.{length, getD, take, drop, set, length-append, length-set}
+use lib.ListN.{length, getD, take, drop, set, length-append, length-set, length-drop}
 use lib.Seq.{drop-cons, drop-length, append-snoc, getD-set-same, drop-set-lt, take-suc, take-length}
-use Rattle.decimal.specs.Digits.{isDigit, run, valueFrom, value, figures, AllDigits, wide, numeral}
-use Rattle.decimal.proofs.Runs.{digits-append, digits-cons, digit-is, digit-bounds, digits-head, digits-take}
+use Rattle.decimal.specs.Digits.{isDigit, run, valueFrom, value, figures, lead, AllDigits, wide, numeral}
+use Rattle.decimal.proofs.Choices.{tested}
+use Rattle.decimal.proofs.Runs.{digits-append, digits-cons, digit-is, digit-bounds, digits-head, digits-take, digits-drop}
 use Rattle.decimal.proofs.Values.{value-snoc, power-pos, ten-pos}
-use Rattle.decimal.proofs.Zeros.{value-shown}
+use Rattle.decimal.proofs.Zeros.{value-shown, value-above, value-below, lead-stop}
 
 pub length-figures : (k n : ℕ) → length (figures k n) ≡ k
 length-figures zero n = refl
@@ -32,6 +35,45 @@ value-figures (suc k) n =
 
 pub value-numeral : (n : ℕ) → n < 10 ^ wide → value (numeral n) ≡ n
 value-numeral n h = value-shown 1 (figures wide n) ∙ value-figures wide n ∙ mod-eq-of-lt h
+
+pub digits-numeral : (n : ℕ) → AllDigits (numeral n)
+digits-numeral n = digits-drop (min (lead (figures wide n)) (length (figures wide n) - 1)) (figures wide n) (digits-figures wide n)
+
+length-numeral : (n : ℕ) → length (numeral n) ≡ wide - min (lead (figures wide n)) (wide - 1)
+length-numeral n = length-drop (min (lead (figures wide n)) (length (figures wide n) - 1)) (figures wide n) ∙ rw (length-figures wide n)
+
+pub numeral-some : (n : ℕ) → 0 < length (numeral n)
+numeral-some n = rw (length-numeral n) (omega arith)
+
+-- a number below 10 ^ k has at most k digits
+pub numeral-short : (n k : ℕ) → 0 < k → n < 10 ^ k → length (numeral n) ≤ k
+numeral-short n k pos h = tested (ltb k (length s - lead s)) (λ e. absurd (over (ltb-true k (length s - lead s) e))) (λ e. within (ltb-false k (length s - lead s) e))
+  where
+    s : List ℕ
+    s = figures wide n
+
+    over : k < length s - lead s → ⊥
+    over e = omega (arith, value-above s k (digits-figures wide n) e, value-figures wide n, mod-le n (10 ^ wide))
+
+    within : length s - lead s ≤ k → length (numeral n) ≤ k
+    within e = rw (length-numeral n) (omega (arith, length-figures wide n))
+
+-- a number above 0 has no leading zero
+pub numeral-head : (n : ℕ) → 0 < n → n < 10 ^ wide → getD (numeral n) 0 0 ≡ 48 → ⊥
+numeral-head n pos h e = lead-stop s (omega (arith, length-figures wide n, few)) (rw k at e)
+  where
+    s : List ℕ
+    s = figures wide n
+
+    few : lead s < wide
+    few =
+        tested (ltb (lead s) wide) (λ t. ltb-true (lead s) wide t)
+        (λ t.
+        let z : length s - lead s ≡ 0 = omega (arith, length-figures wide n, ltb-false (lead s) wide t) in
+        absurd (omega (arith, rw z at (value-below s (digits-figures wide n)), value-figures wide n, mod-eq-of-lt h)))
+
+    k : min (lead s) (length s - 1) ≡ lead s
+    k = omega (arith, length-figures wide n, few)
 
 -- digits are those of their value
 figures-snoc : (k m d : ℕ) → d < 10 → figures (suc k) (10 * m + d) ≡ figures k m ++ ((48 + d) ∷ [])

@@ -32,6 +32,19 @@ pub lead-le : (s : List ℕ) → lead s ≤ length s
 lead-le [] = omega arith
 lead-le (b ∷ s) = tested (eqb b 48) (λ k. rw k (omega (arith, lead-le s))) (λ k. rw k (omega arith))
 
+-- the byte behind the leading zeros is none
+pub lead-stop : (s : List ℕ) → lead s < length s → getD (drop (lead s) s) 0 0 ≡ 48 → ⊥
+lead-stop [] h e = omega arith
+lead-stop (b ∷ s) h e =
+    tested (eqb b 48)
+    (λ k.
+    let h′ : suc (lead s) < suc (length s) = rw k at h in
+    let e′ : getD (drop (suc (lead s)) (b ∷ s)) 0 0 ≡ 48 = rw k at e in
+    lead-stop s (omega arith) e′)
+    (λ k.
+    let e′ : b ≡ 48 = rw k at e in
+    eqb-false b 48 k e′)
+
 -- leading zeros add nothing to a value
 pub value-drop : (k : ℕ) (s : List ℕ) → k ≤ lead s → value (drop k s) ≡ value s
 value-drop zero s h = refl
