@@ -12,7 +12,7 @@ use lib.Seq.{sets, sets-eq, set-out, length-sets}
 use Rattle.decimal.proofs.Choices.{tested}
 use Rattle.area.specs.Area.{Wrote, most}
 
-sets-append : (o : List ℕ) (a : ℕ) (p q : List ℕ) → sets o a (p ++ q) ≡ sets (sets o a p) (a + length p) q
+pub sets-append : (o : List ℕ) (a : ℕ) (p q : List ℕ) → sets o a (p ++ q) ≡ sets (sets o a p) (a + length p) q
 sets-append o a [] q = rw add-zero
 sets-append o a (b ∷ p) q =
     sets-append (set o a b) (suc a) p q ∙ ap (λ (k : ℕ). sets (sets (set o a b) (suc a) p) k q) (omega arith)

@@ -1,5 +1,5 @@
 -- Laws of definitions by tests.
-use mathlib.Core.Path.{_≡_, refl, sym}
+use mathlib.Core.Path.{_≡_, refl, sym, _∙_}
 use mathlib.Core.Bool.{Bool, true, false}
 use Prim.Native.Nat.{ℕ}
 use lib.Dec.{eqb, ltb}
@@ -24,17 +24,16 @@ pub tested : {A : Type 0} (b : Bool) → (b ≡ true → A) → (b ≡ false →
 tested true f g = f refl
 tested false f g = g refl
 
+-- From 0 ≡ 1 anything follows: `never (cc)` rules out a case in which two different constructors are said to be equal.
+pub never : {A : Type 0} → _≡_ {A = ℕ} 0 1 → A
+never e = absurd (omega arith)
+
 -- a test does not both hold and fail
 pub not-both : {A : Type 0} {b : Bool} → b ≡ true → b ≡ false → A
-not-both {A} {b} t f = absurd (no (sym t) f)
+not-both {A} {b} t f = never (differ (sym t ∙ f))
   where
-    no : true ≡ b → b ≡ false → ⊥
-    no p q =
-        let z : _≡_ {A = ℕ} 0 1 = differ (cc) in
-        omega arith
-      where
-        differ : true ≡ false → _≡_ {A = ℕ} 0 1
-        differ e = cc
+    differ : true ≡ false → _≡_ {A = ℕ} 0 1
+    differ e = cc
 
 -- two tests that say the same are equal
 pub eqb-same : (a b c d : ℕ) → (a ≡ b → c ≡ d) → (c ≡ d → a ≡ b) → eqb a b ≡ eqb c d

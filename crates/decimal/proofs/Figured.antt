@@ -10,7 +10,7 @@ use native.Mathlib.Numerals.{add-one}
 use lib.Arith.{mod-mul, digits-div, digits-mod}
 use lib.ListN.{length, getD, take, drop, set, length-append, length-set, length-drop}
 use lib.Seq.{drop-cons, drop-length, append-snoc, getD-set-same, drop-set-lt, take-suc, take-length}
-use Rattle.decimal.specs.Digits.{isDigit, run, valueFrom, value, figures, lead, AllDigits, wide, numeral}
+use Rattle.decimal.specs.Digits.{isDigit, run, valueFrom, value, figures, lead, AllDigits, shown, wide, numeral}
 use Rattle.decimal.proofs.Choices.{tested}
 use Rattle.decimal.proofs.Runs.{digits-append, digits-cons, digit-is, digit-bounds, digits-head, digits-take, digits-drop}
 use Rattle.decimal.proofs.Values.{value-snoc, power-pos, ten-pos}
@@ -97,6 +97,10 @@ figures-value (suc k) s e h =
 
 pub figures-of : (s : List ℕ) → AllDigits s → figures (length s) (value s) ≡ s
 figures-of s e = rw take-length at (figures-value (length s) s e (omega arith))
+
+-- the digits shown of a number, from the digits written and the count of their leading zeros
+pub shown-figures : (k n least : ℕ) (d : List ℕ) (z m : ℕ) → d ≡ figures k n → z ≡ lead d → m ≡ min z (k - least) → drop m d ≡ shown least (figures k n)
+shown-figures k n least d z m p q r = rw (r, q, p, length-figures k n)
 
 -- ---- filling an area from its end
 

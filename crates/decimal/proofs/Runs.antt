@@ -16,10 +16,7 @@ use Rattle.decimal.proofs.Choices.{tested, not-both}
 
 pub nil-of-length : (s : List ℕ) → length s ≡ 0 → s ≡ []
 nil-of-length [] e = refl
-nil-of-length (b ∷ s) e = absurd (no e)
-  where
-    no : suc (length s) ≡ 0 → ⊥
-    no k = omega arith
+nil-of-length (b ∷ s) e = absurd (omega arith)
 
 -- an element within the list is the same whatever stands for those past its end
 pub getD-any : (s : List ℕ) (i a b : ℕ) → i < length s → getD s i a ≡ getD s i b
@@ -66,10 +63,7 @@ digits-head b s e = tested (isDigit b) yes no
     no : isDigit b ≡ false → (isDigit b ≡ true) × AllDigits s
     no k =
         let f : 0 ≡ suc (length s) = rw k at e in
-        absurd (never f)
-      where
-        never : 0 ≡ suc (length s) → ⊥
-        never g = omega arith
+        absurd (omega arith)
 
 pub digits-cons : (b : ℕ) (s : List ℕ) → isDigit b ≡ true → AllDigits s → AllDigits (b ∷ s)
 digits-cons b s d e = rw d (ap suc e)

@@ -56,10 +56,7 @@ value-drop (suc k) (b ∷ s) h =
     rw (eqb-true b 48 e) (value-drop k s (omega arith)))
     (λ e.
     let h′ : suc k ≤ 0 = rw e at h in
-    absurd (never h′))
-  where
-    never : suc k ≤ 0 → ⊥
-    never g = omega arith
+    absurd (omega arith))
 
 pub value-shown : (least : ℕ) (s : List ℕ) → value (shown least s) ≡ value s
 value-shown least s = value-drop (min (lead s) (length s - least)) s (omega arith)

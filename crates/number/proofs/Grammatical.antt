@@ -13,7 +13,7 @@ use lib.ListN.{length, getD, take, drop, take-append-drop}
 use lib.Seq.{length-take-le, take-at, drop-at}
 use Rattle.decimal.specs.Choice.{if_then_else_, both}
 use Rattle.decimal.specs.Digits.{isDigit, begins, run, AllDigits}
-use Rattle.decimal.proofs.Choices.{choice, tested, not-both}
+use Rattle.decimal.proofs.Choices.{choice, tested, not-both, never}
 use Rattle.decimal.proofs.Runs.{run-le, run-append, digits-run, digits-head, digit-bounds}
 use Rattle.number.specs.Grammar.{Parts, Spells, isMark, isExponent, signText, marked, textOf}
 use Rattle.number.specs.Reading.{partsFrom, exponentAt, fractionAt, pointAt, wholeAt, partsOf}
@@ -63,11 +63,8 @@ exponent-right negative whole fraction [] dw lw df =
       whole-digits = dw;
       whole-written = lw;
       fraction-digits = df;
-      exponent-digits = λ h. absurd (none-written h);
+      exponent-digits = λ h. absurd (omega arith);
     }
-  where
-    none-written : 0 < 0 → ⊥
-    none-written h = omega arith
 exponent-right negative whole fraction (b ∷ s) dw lw df =
     rw (eqb·suc-zero (length s)) (choice (Right (signText negative ++ (whole ++ (marked 46 fraction ++ (b ∷ s))))) (both (isMark b) (isExponent s)) told (λ _. tt))
   where
@@ -215,5 +212,4 @@ complete s p h = ap partsOf (h .text) ∙ signed (p .negative)
 pub none-spells : (s : List ℕ) → partsOf s ≡ none → (p : Parts) → Spells s p → ⊥
 none-spells s e p h =
     let q = complete s p h in
-    let z : _≡_ {A = ℕ} 0 1 = cc in
-    omega arith
+    never (cc)

@@ -11,7 +11,7 @@ use borrow.Author.Tests.{ltb-true, ltb-false, eqb-true, eqb-false, lt-ltb, le-lt
 use lib.ListN.{length}
 use Rattle.decimal.specs.Choice.{if_then_else_}
 use Rattle.decimal.specs.Digits.{value}
-use Rattle.decimal.proofs.Choices.{tested, not-both}
+use Rattle.decimal.proofs.Choices.{tested, not-both, never}
 use Rattle.answer.specs.declared.NumberRow.{NumberRow}
 use Rattle.answer.specs.declared.NumberRow.the-variants.{NumberTooLong, NotANumber, ExponentTooLarge, ExponentAfterZero, IntegerTooLong, FractionTooLong}
 use Rattle.answer.specs.declared.Refusal.the-variants.{Number as OfNumber}
@@ -132,8 +132,7 @@ given r s = (only (told s), given-if r s)
         subst (λ (x : NumberRow). Row x s) same h
     only (number p h) e =
         let k = read-if s p h in
-        let z : _≡_ {A = ℕ} 0 1 = cc in
-        absurd (omega arith)
+        never (cc)
 
 -- a number is read exactly when the text is one's and no row is given, and it is the number of the text's parts
 pub reads : (s : List ℕ) (n : Number) → (readNumber s ≡ Is n) ↔ ((p : Parts) × (Past15 s p × (numberOf p ≡ n)))
@@ -142,8 +141,7 @@ reads s n = (only (told s), λ h. read-if s (h .0) (h .1 .0) ∙ ap Is (h .1 .1)
     only : Told s → readNumber s ≡ Is n → (p : Parts) × (Past15 s p × (numberOf p ≡ n))
     only (row q h) e =
         let k = given-if q s h in
-        let z : _≡_ {A = ℕ} 0 1 = cc in
-        absurd (omega arith)
+        never (cc)
     only (number p h) e =
         let k = read-if s p h in
         let same : numberOf p ≡ n = cc in

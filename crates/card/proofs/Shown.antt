@@ -1,0 +1,6 @@
+-- Every row of the card is right, by computation from the definitions.
+use mathlib.Core.Path.{refl}
+use Rattle.card.specs.Card.{All, rows}
+
+pub card : All rows
+card = (refl, (refl, tt))

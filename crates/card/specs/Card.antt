@@ -1,0 +1,42 @@
+-- Document 01, "Numbers on the bench card": "Starred ones are shown by proof from the definitions, as rows of a single list under a single claim".
+use mathlib.Core.Path.{_≡_}
+use mathlib.Core.Bool.{Bool, false}
+use mathlib.Core.List.{List, [], _∷_}
+use Prim.Native.Nat.{ℕ}
+use Rattle.number.specs.Reading.{readNumber}
+use Rattle.number.specs.declared.Number.{Number}
+use Rattle.number.specs.declared.Reading.{Reading}
+use Rattle.number.specs.declared.Reading.the-variants.{Is}
+
+-- A row of the card: what is asked, and the answer that the card gives.
+pub data Row : Type 0 where
+  operands : (text : List ℕ) → Reading → Row
+
+-- the row's answer is that of the definitions
+abbrev pub Right : Row → Type 0
+Right (operands text r) = readNumber text ≡ r
+
+abbrev pub All : List Row → Type 0
+All [] = Unit {0}
+All (row ∷ rows) = Right row × All rows
+
+-- a positive number with these operands, in the order of the card
+abbrev pub positive : ℕ → ℕ → ℕ → ℕ → ℕ → ℕ → Reading
+positive i v w f t e =
+    Is (record {
+      negative = false;
+      e = e;
+      i = i;
+      v = record { 0 = v };
+      f = record { 0 = f };
+      w = record { 0 = w };
+      t = record { 0 = t };
+    })
+
+abbrev pub rows : List Row
+rows =
+    -- "1.20050c3: i 1200, v 2, w 1, f 50, t 5, e 3"
+    operands (49 ∷ 46 ∷ 50 ∷ 48 ∷ 48 ∷ 53 ∷ 48 ∷ 99 ∷ 51 ∷ []) (positive 1200 2 1 50 5 3)
+    -- "1.0: i 1, v 1, f 0"
+    ∷ operands (49 ∷ 46 ∷ 48 ∷ []) (positive 1 1 0 0 0 0)
+    ∷ []
