@@ -1,2 +1,3 @@
 pub mod Moves
 pub mod Streams
+pub mod Fields

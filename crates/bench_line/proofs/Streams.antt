@@ -12,46 +12,13 @@ use lib.ListN.{length, getD, take, drop, drop-of-length-le, length-append}
 use lib.Seq.{drop-cons, take-append-le, drop-append-le, drop-append-add, take-append-add, take-length, length-take-le}
 use Rattle.decimal.specs.Choice.{if_then_else_}
 use Rattle.decimal.proofs.Choices.{tested, choice, not-both, never}
+use Rattle.decimal.specs.Split.{onFirst}
 use Rattle.decimal.proofs.Runs.{nil-of-length}
-use Rattle.bench_line.specs.Lines.{onFirst, lines, maxLine, unread, answerTo, answersTo, output}
+use Rattle.decimal.proofs.Splits.{until-le, until-within, until-beyond}
+use Rattle.bench_line.specs.Lines.{lines, maxLine, unread, answerTo, answersTo, output}
 use Rattle.bench_line.specs.Stream.{lineLength, lastCut, cutOf, cutAnswer, pending}
 use Rattle.bench_line.specs.declared.Cut.{Cut}
 use Rattle.bench_line.specs.declared.Cut.the-variants.{Line, Over, More, Done}
-
--- ---- scanning for the LF
-
-pub length-more : (s : List ℕ) (i : ℕ) → i < length s → (getD s i 0 ≡ 10 → ⊥) → i + lineLength (drop i s) ≡ (i + 1) + lineLength (drop (i + 1) s)
-length-more s i h d = rw (add-one, drop-cons s i 0 h, ne-eqb (getD s i 0) 10 d) (omega arith)
-
-pub length-end : (s : List ℕ) (i : ℕ) → i < length s → getD s i 0 ≡ 10 → lineLength (drop i s) ≡ 0
-length-end s i h d = rw (drop-cons s i 0 h, d)
-
-pub length-out : (s : List ℕ) (i : ℕ) → length s ≤ i → lineLength (drop i s) ≡ 0
-length-out s i h = rw (drop-of-length-le s h)
-
-pub length-le : (s : List ℕ) → lineLength s ≤ length s
-length-le [] = omega arith
-length-le (b ∷ s) = tested (eqb b 10) (λ k. rw k (omega arith)) (λ k. rw k (omega (arith, length-le s)))
-
--- an LF within s is where it was, with more behind s; else the line goes on behind s
-length-within : (s r : List ℕ) → lineLength s < length s → lineLength (s ++ r) ≡ lineLength s
-length-within [] r h = absurd (omega arith)
-length-within (b ∷ s) r h =
-    tested (eqb b 10) (λ k. rw k)
-    (λ k.
-    let h′ : suc (lineLength s) < suc (length s) = rw k at h in
-    rw k (ap suc (length-within s r (omega arith))))
-
-length-beyond : (s r : List ℕ) → length s ≤ lineLength s → lineLength (s ++ r) ≡ length s + lineLength r
-length-beyond [] r h = sym (zero-add (lineLength r))
-length-beyond (b ∷ s) r h =
-    tested (eqb b 10)
-    (λ k.
-    let h′ : suc (length s) ≤ 0 = rw k at h in
-    absurd (omega arith))
-    (λ k.
-    let h′ : suc (length s) ≤ suc (lineLength s) = rw k at h in
-    rw k (ap suc (length-beyond s r (omega arith)) ∙ sym (suc-add (length s) (lineLength r))))
 
 -- ---- the first line of an input, and the others
 
@@ -73,14 +40,14 @@ output-first x h =
 line-ends : (long : Bool) (s r : List ℕ) → lineLength s < length s
     → pending long (s ++ r) ≡ cutAnswer long (take (lineLength s) s) ++ pending false (drop (lineLength s + 1) s ++ r)
 line-ends true s r h =
-    rw (length-within s r h, drop-append-le (lineLength s + 1) s r (omega arith))
+    rw (until-within 10 s r h, drop-append-le (lineLength s + 1) s r (omega arith))
 line-ends false s r h =
     output-first (s ++ r) (omega (arith, length-append s r))
-    ∙ rw (length-within s r h, take-append-le (lineLength s) s r (omega arith), drop-append-le (lineLength s + 1) s r (omega arith))
+    ∙ rw (until-within 10 s r h, take-append-le (lineLength s) s r (omega arith), drop-append-le (lineLength s + 1) s r (omega arith))
 
 -- or at the input's end
 no-lf : (s : List ℕ) → length s ≤ lineLength s → lineLength s ≡ length s
-no-lf s h = omega (arith, length-le s)
+no-lf s h = omega (arith, until-le 10 s)
 
 line-last : (long : Bool) (s : List ℕ) → length s ≤ lineLength s → (long ≡ false → 0 < length s)
     → pending long s ≡ cutAnswer long (take (length s) s) ++ pending false (drop (length s + 1) s)
@@ -130,11 +97,11 @@ over-drops long s r h k = pass long
   where
     behind : drop (lineLength (s ++ r) + 1) (s ++ r) ≡ drop (lineLength r + 1) r
     behind =
-        let e : lineLength (s ++ r) + 1 ≡ length s + (lineLength r + 1) = omega (arith, length-beyond s r h) in
+        let e : lineLength (s ++ r) + 1 ≡ length s + (lineLength r + 1) = omega (arith, until-beyond 10 s r h) in
         rw (e, drop-append-add s r (lineLength r + 1))
 
     first : answerTo (take (lineLength (s ++ r)) (s ++ r)) ≡ unread 60
-    first = rw (lt-ltb maxLine (length (take (lineLength (s ++ r)) (s ++ r))) (omega (arith, length-take-le (lineLength (s ++ r)) (s ++ r) (length-le (s ++ r)), length-beyond s r h)))
+    first = rw (lt-ltb maxLine (length (take (lineLength (s ++ r)) (s ++ r))) (omega (arith, length-take-le (lineLength (s ++ r)) (s ++ r) (until-le 10 (s ++ r)), until-beyond 10 s r h)))
 
     pass : (q : Bool) → pending q (s ++ r) ≡ pending true r
     pass true = rw behind

@@ -6,11 +6,7 @@ use lib.Dec.{ltb, eqb}
 use lib.ListN.{length}
 use Rattle.decimal.specs.Choice.{if_then_else_}
 use Rattle.decimal.specs.Digits.{numeral}
-
--- a byte in front of the first line
-abbrev pub onFirst : ℕ → List (List ℕ) → List (List ℕ)
-onFirst b [] = (b ∷ []) ∷ []
-onFirst b (x ∷ xs) = (b ∷ x) ∷ xs
+use Rattle.decimal.specs.Split.{onFirst}
 
 -- the lines of an input, without their LF: none is left behind a last LF
 abbrev pub lines : List ℕ → List (List ℕ)

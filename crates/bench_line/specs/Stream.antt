@@ -1,20 +1,20 @@
 -- The input in pieces: what is to be done with the bytes held, of an input of which more may come.
 use mathlib.Core.Bool.{Bool, true, false}
 use mathlib.Core.List.{List, [], _∷_, _++_}
-use Prim.Native.Nat.{ℕ, suc, _+_}
-use lib.Dec.{ltb, eqb}
+use Prim.Native.Nat.{ℕ, _+_}
+use lib.Dec.{ltb}
 use mathlib.Core.Path.{_≡_}
 use lib.ListN.{length, take, drop}
 use lib.Seq.{sets}
 use Rattle.decimal.specs.Choice.{if_then_else_}
+use Rattle.decimal.specs.Split.{until}
 use Rattle.bench_line.specs.Lines.{maxLine, unread, answerTo, output}
 use Rattle.bench_line.specs.declared.Cut.{Cut}
 use Rattle.bench_line.specs.declared.Cut.the-variants.{Line, Over, More, Done}
 
 -- how many bytes stand before the first LF
 abbrev pub lineLength : List ℕ → ℕ
-lineLength [] = 0
-lineLength (b ∷ s) = if eqb b 10 then 0 else suc (lineLength s)
+lineLength s = until 10 s
 
 -- the input has ended, and no LF is left: the bytes are a last line, unless there is none
 abbrev pub lastCut : Bool → List ℕ → Cut

@@ -5,10 +5,11 @@
 // is cut into pieces.
 ghost use mathlib.Core.Path.{_≡_};
 ghost use Prim.Native.Nat.{_+_, _≤_, min};
-ghost use lib.ListN.{length};
+ghost use lib.ListN.{drop};
 ghost use Rattle.area.specs.Area.{Wrote};
+ghost use Rattle.bench_line.specs.Jobs.{jobOf, jobAt, jobWith, lastField};
 ghost use Rattle.bench_line.specs.Lines.{unread, jobAnswer};
-ghost use Rattle.bench_line.specs.Stream.{lineLength, lastCut, cutOf, cutAnswer, Kept};
+ghost use Rattle.bench_line.specs.Stream.{lastCut, cutOf, cutAnswer, Kept};
 
 const MAX_LINE: usize = 8192;
 
@@ -22,20 +23,6 @@ pub enum Cut {
     More,
     // Nothing is left.
     Done,
-}
-
-// How many bytes stand before the first LF.
-pub fn line_length(s: &[u8]) -> usize
-    ensures { λ r. ⌜ (r ≡ lineLength (now (s .entry))) × (r ≤ length (now (s .entry))) ⌝ }
-{
-    let mut i = 0;
-    while i < s.len() {
-        if s[i] == 10 {
-            return i;
-        }
-        i += 1;
-    }
-    i
 }
 
 // The input has ended: the bytes held are the last line, unless there is none.
@@ -54,7 +41,7 @@ fn cut_last(s: &[u8], long: bool) -> Cut
 pub fn cut_line(s: &[u8], long: bool, last: bool) -> Cut
     ensures { λ r. ⌜ r ≡ cutOf long last (now (s .entry)) ⌝ }
 {
-    let n = line_length(s);
+    let n = decimal::scan::run_until(s, 10);
     if n < s.len() {
         return Cut::Line(n);
     }
@@ -65,6 +52,67 @@ pub fn cut_line(s: &[u8], long: bool, last: bool) -> Cut
         return Cut::Over;
     }
     Cut::More
+}
+
+// The job of a line, by the lengths of its fields.
+pub enum JobCut {
+    // `s`: a pack of so many bytes behind the letter and its TAB, and a number behind the next TAB.
+    SelectAt(usize),
+    // `c`: a pack behind the letter and its TAB.
+    CheckAt,
+    // `f`: a pattern of so many bytes behind the letter and its TAB, and a number behind the next TAB.
+    FormatAt(usize),
+    // no job
+    Unknown,
+}
+
+// The letter and the fields behind it: n is the length of the first, two says that there is a second
+// and no third, one that there is no second.
+fn job_with(letter: u8, n: usize, one: bool, two: bool) -> JobCut
+    ensures { λ r. ⌜ r ≡ jobWith letter n one two ⌝ }
+{
+    if letter == 99 {
+        if one {
+            return JobCut::CheckAt;
+        }
+        return JobCut::Unknown;
+    }
+    if !two {
+        return JobCut::Unknown;
+    }
+    if letter == 115 {
+        return JobCut::SelectAt(n);
+    }
+    if letter == 102 {
+        return JobCut::FormatAt(n);
+    }
+    JobCut::Unknown
+}
+
+// A second field, of two, and no third.
+fn is_last(s: &[u8], n: usize) -> bool
+    ensures { λ r. ⌜ r ≡ lastField n (now (s .entry)) ⌝ }
+{
+    if s.len() <= n {
+        return false;
+    }
+    let second = decimal::cut::after(s, n + 1);
+    decimal::scan::run_until(second, 9) == second.len()
+}
+
+// The job of a line, for any bytes.
+pub fn read_job(line: &[u8]) -> JobCut
+    ensures { λ r. ⌜ jobAt (drop 2 (now (line .entry))) r ≡ jobOf (now (line .entry)) ⌝ }
+{
+    if line.len() < 2 {
+        return JobCut::Unknown;
+    }
+    if line[1] != 9 {
+        return JobCut::Unknown;
+    }
+    let rest = decimal::cut::after(line, 2);
+    let n = decimal::scan::run_until(rest, 9);
+    job_with(line[0], n, n == rest.len(), is_last(rest, n))
 }
 
 // Appends `? ` and a number.

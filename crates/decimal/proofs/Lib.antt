@@ -3,3 +3,4 @@ pub mod Runs
 pub mod Values
 pub mod Zeros
 pub mod Figured
+pub mod Splits

@@ -3,6 +3,7 @@ ghost use mathlib.Core.Path.{_≡_};
 ghost use Prim.Native.Nat.{_≤_};
 ghost use lib.ListN.{length};
 ghost use Rattle.decimal.specs.Digits.{isDigit, run, lead, trim};
+ghost use Rattle.decimal.specs.Split.{until};
 
 pub fn is_digit(b: u8) -> bool
     ensures { λ r. ⌜ r ≡ isDigit b ⌝ }
@@ -57,4 +58,18 @@ pub fn trimmed_len(s: &[u8]) -> usize
         }
     }
     n
+}
+
+// How many bytes of s stand before the first b.
+pub fn run_until(s: &[u8], b: u8) -> usize
+    ensures { λ r. ⌜ (r ≡ until b (now (s .entry))) × (r ≤ length (now (s .entry))) ⌝ }
+{
+    let mut i = 0;
+    while i < s.len() {
+        if s[i] == b {
+            return i;
+        }
+        i += 1;
+    }
+    i
 }

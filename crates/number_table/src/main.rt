@@ -44,7 +44,7 @@ fn append_all(out: &mut [u8], input: &[u8]) -> usize {
     let mut used = 0;
     while from < input.len() {
         let rest = decimal::cut::after(input, from);
-        let n = bench_line::line_length(rest);
+        let n = decimal::scan::run_until(rest, 10);
         let end = append_reading(out, used, number::read_number(decimal::cut::upto(rest, n)));
         used = area::put(out, end, 10);
         from = bench_line::next_line(from, n, input.len());

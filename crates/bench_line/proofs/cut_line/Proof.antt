@@ -4,28 +4,27 @@ use borrow.Author.Needs.{needs}
 use Rattle.bench_line.proofs.cut_line.Statement.{statement}
 use Rattle.bench_line.proofs.cut_line.Tie as tie
 
-line-length-requires : tie.Need-line-length-requires
-line-length-requires c κs = search needs
+run-until-requires : tie.Need-run-until-requires
+run-until-requires c κs = search needs
 
 returns : tie.Need-returns
-returns c = simp (← (c .before .line-length .ensures .0), lt-ltb _ _ (c .if1 .taken))
+returns c = simp (← (c .before .run-until .ensures .0), lt-ltb _ _ (c .if1 .taken))
 
 cut-last-requires : tie.Need-cut-last-requires
 cut-last-requires c κs = search needs
 
 returns-2 : tie.Need-returns-2
 returns-2 c =
-    simp (← (c .before .before .before .line-length .ensures .0), le-ltb _ _ (c .before .before .if1 .left), c .before .if2 .taken, c .cut-last .ensures)
+    simp (← (c .before .before .before .run-until .ensures .0), le-ltb _ _ (c .before .before .if1 .left), c .before .if2 .taken, c .cut-last .ensures)
 
 returns-3 : tie.Need-returns-3
 returns-3 c =
-    simp (← (c .before .before .before .line-length .ensures .0), le-ltb _ _ (c .before .before .if1 .left), c .before .if2 .left, lt-ltb _ _ (c .if3 .taken))
+    simp (← (c .before .before .before .run-until .ensures .0), le-ltb _ _ (c .before .before .if1 .left), c .before .if2 .left, lt-ltb _ _ (c .if3 .taken))
 
 returns-4 : tie.Need-returns-4
 returns-4 c =
-    simp (← (c .before .before .before .line-length .ensures .0), le-ltb _ _ (c .before .before .if1 .left), c .before .if2 .left, le-ltb _ _ (c .if3 .left))
+    simp (← (c .before .before .before .run-until .ensures .0), le-ltb _ _ (c .before .before .if1 .left), c .before .if2 .left, le-ltb _ _ (c .if3 .left))
 
 pub cut-line-spec : {M : Type 1} → statement M
 cut-line-spec =
-    tie.close
-    (tie.spec line-length-requires returns cut-last-requires returns-2 returns-3 returns-4)
+    tie.close (tie.spec run-until-requires returns cut-last-requires returns-2 returns-3 returns-4)
