@@ -1,0 +1,3 @@
+pub mod Meanings
+pub mod Masks
+pub mod Selections

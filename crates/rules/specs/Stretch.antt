@@ -1,0 +1,66 @@
+-- What stretches of a parsed pack's arrays hold, place by place.
+use mathlib.Core.Bool.{Bool, false}
+use mathlib.Core.List.{List, [], _∷_}
+use Prim.Native.Nat.{ℕ, zero, suc, _-_, min}
+use lib.Dec.{eqb}
+use lib.ListN.{getD}
+use Rattle.decimal.specs.Choice.{if_then_else_}
+use Rattle.rules.specs.Syntax.{Range, Relation, Rule}
+use Rattle.rules.specs.Held.{keywordOf}
+use Rattle.rules.specs.declared.Pack.{Pack}
+
+-- the n elements g from, g (from + 1), ..
+unfoldable pub stretch : {A : Type 0} → (ℕ → A) → ℕ → ℕ → List A
+stretch g from zero = []
+stretch g from (suc n) = g from ∷ stretch g (suc from) n
+
+-- where the part j begins, of parts that end at these places
+abbrev pub startAt : List ℕ → ℕ → ℕ
+startAt ends j = if eqb j 0 then 0 else getD ends (j - 1) 0
+
+abbrev pub rangeAt : List ℕ → List ℕ → ℕ → Range
+rangeAt low high k = record { low = getD low k 0; high = getD high k 0 }
+
+-- the ranges at `from` to before `to`
+abbrev pub rangesIn : List ℕ → List ℕ → ℕ → ℕ → List Range
+rangesIn low high from to = stretch (rangeAt low high) from (to - from)
+
+-- the arrays of relations and their ranges
+pub record Table : Type 0 where
+  pub operand : List ℕ
+  pub modulus : List ℕ
+  pub negated : List Bool
+  pub ranges : List ℕ
+  pub low : List ℕ
+  pub high : List ℕ
+
+abbrev pub table : List ℕ → List ℕ → List Bool → List ℕ → List ℕ → List ℕ → Table
+table operand modulus negated ranges low high = record { operand = operand; modulus = modulus; negated = negated; ranges = ranges; low = low; high = high }
+
+abbrev pub tableOf : Pack → Table
+tableOf p = table (p .operand) (p .modulus) (p .negated) (p .ranges) (p .low) (p .high)
+
+abbrev pub relationAt : Table → ℕ → Relation
+relationAt T j =
+    record {
+      operand = getD (T .operand) j 0;
+      modulus = getD (T .modulus) j 0;
+      negated = getD (T .negated) j false;
+      ranges = rangesIn (T .low) (T .high) (startAt (T .ranges) j) (min (getD (T .ranges) j 0) 2048);
+    }
+
+abbrev pub relationsIn : Table → ℕ → ℕ → List Relation
+relationsIn T from to = stretch (relationAt T) from (to - from)
+
+abbrev pub clauseAt : Table → List ℕ → ℕ → List Relation
+clauseAt T relations j = relationsIn T (startAt relations j) (min (getD relations j 0) 320)
+
+abbrev pub clausesIn : Table → List ℕ → ℕ → ℕ → List (List Relation)
+clausesIn T relations from to = stretch (clauseAt T relations) from (to - from)
+
+abbrev pub ruleAt : Pack → ℕ → Rule
+ruleAt p j =
+    record {
+      keyword = keywordOf (getD (p .keyword) j 0);
+      clauses = clausesIn (tableOf p) (p .relations) (startAt (p .clauses) j) (min (getD (p .clauses) j 0) 40);
+    }
