@@ -1,3 +1,4 @@
 pub mod Meanings
 pub mod Masks
 pub mod Selections
+pub mod Chosen

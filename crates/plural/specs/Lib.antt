@@ -1,3 +1,4 @@
 pub mod Meaning
 pub mod Select
 pub mod Places
+pub mod Words
