@@ -6,3 +6,4 @@ pub mod Shuffle
 pub mod Viable
 pub mod Exact
 pub mod Rows
+pub mod Whole

@@ -64,7 +64,7 @@ bad-rules : {A : Type 0} {p : ℕ} {rs : List RuleTree} → Bad p ≡ Trees rs �
 bad-rules e = absurd (let z : _≡_ {A = ℕ} 0 1 = cc in omega arith)
 
 -- what follows from a reading
-then-fine : (s : Stop) (p : Parsed) (rs : List RuleTree) → andThen s p ≡ Trees rs
+pub then-fine : (s : Stop) (p : Parsed) (rs : List RuleTree) → andThen s p ≡ Trees rs
     → (r : RuleTree) × (qs : List RuleTree) × (s ≡ Fine r) × (p ≡ Trees qs) × (rs ≡ r ∷ qs)
 then-fine (Stuck a) p rs e = bad-rules e
 then-fine (Fine r) (Trees qs) rs e = (r, qs, refl, refl, cc)

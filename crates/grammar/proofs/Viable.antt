@@ -295,7 +295,7 @@ halts p (t ∷ ts) end a v e = go (isDead (onward p (t .text) .state)) refl e (h
 abbrev pub plain : Text → Bool
 plain x = all (λ (b : ℕ). not (eqb b 59)) x
 
-noSemi : List Token → Bool
+unfoldable pub noSemi : List Token → Bool
 noSemi ts = all (λ (t : Token). not (same (t .text) semi)) ts
 
 not-true : (b : Bool) → not b ≡ true → b ≡ false
@@ -313,7 +313,7 @@ plain-drop zero s e = e
 plain-drop (suc n) [] e = refl
 plain-drop (suc n) (b ∷ s) e = plain-drop n s (both-1 (not (eqb b 59)) (plain s) e)
 
-no-semi : (k a : ℕ) (s : Text) → plain s ≡ true → noSemi (tokensFor k a s) ≡ true
+pub no-semi : (k a : ℕ) (s : Text) → plain s ≡ true → noSemi (tokensFor k a s) ≡ true
 unfolding noSemi
 no-semi zero a s e = refl
 no-semi (suc k) a s e =
@@ -459,7 +459,7 @@ end-suc : (a : ℕ) (b : ℕ) (x : Text) (xs : List Text) → packEnd (a + 1) x 
 end-suc a b x [] = omega arith
 end-suc a b x (y ∷ ys) = ap (λ (n : ℕ). packEnd n y ys) (omega arith)
 
-end-is : (a : ℕ) (s : Text) → packEnd a (firstOf (segments s)) (othersOf (segments s)) ≡ a + length s
+pub end-is : (a : ℕ) (s : Text) → packEnd a (firstOf (segments s)) (othersOf (segments s)) ≡ a + length s
 end-is a [] = refl
 end-is a (b ∷ s) = go (eqb b 59) (segments s) (some-segments s) (end-is (a + 1) s)
   where
