@@ -31,10 +31,10 @@ bad-rules : {A : Type 0} {a : ℕ} {rs : List RuleTree} → Bad a ≡ Trees rs �
 bad-rules e = absurd (let z : _≡_ {A = ℕ} 0 1 = cc in omega arith)
 
 -- halting with rules: alive to the end, and whole there
-abbrev Ended : Far → List RuleTree → Type 0
+abbrev pub Ended : Far → List RuleTree → Type 0
 Ended p rs = (r : RuleTree) × (ends (p .state) ≡ Whole r) × (rs ≡ p .rules ++ (r ∷ []))
 
-ended : (p : Far) (ts : List Token) (end : ℕ) (rs : List RuleTree) → halt p ts end ≡ Trees rs → Ended (far p (texts ts)) rs
+pub ended : (p : Far) (ts : List Token) (end : ℕ) (rs : List RuleTree) → halt p ts end ≡ Trees rs → Ended (far p (texts ts)) rs
 ended p [] end rs e = go (ends (p .state)) refl e
   where
     go : (x : Read) → ends (p .state) ≡ x → last (p .rules) end x ≡ Trees rs → Ended p rs
@@ -46,7 +46,7 @@ ended p (t ∷ ts) end rs e = go (isDead (onward p (t .text) .state)) e (ended (
     go true e f = bad-rules e
     go false e f = f e
 
-ends-halt : (p : Far) (ts : List Token) (end : ℕ) (r : RuleTree) → ends (far p (texts ts) .state) ≡ Whole r → halt p ts end ≡ Trees (far p (texts ts) .rules ++ (r ∷ []))
+pub ends-halt : (p : Far) (ts : List Token) (end : ℕ) (r : RuleTree) → ends (far p (texts ts) .state) ≡ Whole r → halt p ts end ≡ Trees (far p (texts ts) .rules ++ (r ∷ []))
 ends-halt p [] end r e = rw e
 ends-halt p (t ∷ ts) end r e =
     let v = alive-before (onward p (t .text)) (texts ts) (whole-alive (far (onward p (t .text)) (texts ts) .state) r e) in

@@ -7,3 +7,4 @@ pub mod Viable
 pub mod Exact
 pub mod Rows
 pub mod Whole
+pub mod Table

@@ -271,7 +271,7 @@ pub record AtEnd (p : Far) (ts : List Token) (end a : ℕ) : Type 0 where
 bad-eq : {a b : ℕ} → Bad a ≡ Bad b → a ≡ b
 bad-eq e = cc
 
-halts : (p : Far) (ts : List Token) (end a : ℕ) → isDead (p .state) ≡ false → halt p ts end ≡ Bad a → There p ts a ⊎ AtEnd p ts end a
+pub halts : (p : Far) (ts : List Token) (end a : ℕ) → isDead (p .state) ≡ false → halt p ts end ≡ Bad a → There p ts a ⊎ AtEnd p ts end a
 halts p [] end a v e = go (ends (p .state)) refl e
   where
     go : (x : Read) → ends (p .state) ≡ x → last (p .rules) end x ≡ Bad a → There p [] a ⊎ AtEnd p [] end a

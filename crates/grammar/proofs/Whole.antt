@@ -288,12 +288,21 @@ faults-whole used d at x (y ∷ ys) rs g h e =
     let k = name-is ts r (s .0) in
     let us = packTokens (suc (at + length x)) y ys in
     let u : (t : Text) → among t (keywordIn ts ∷ used) ≡ among t (names (d ++ (r ∷ []))) =
-        λ t. rw (k, names-snoc d r, among-last t (nameOf r) (names d), h t) in
+    λ t. rw (k, names-snoc d r, among-last t (nameOf r) (names d), h t) in
     let ih = faults-whole (keywordIn ts ∷ used) (d ++ (r ∷ [])) (suc (at + length x)) y ys (a .1) (both-1 (plain x) (all plain (y ∷ ys)) g) u (a .3) in
     sym (segment-faults used d ts (record { at = at + length x; text = semi } ∷ us) n h
     ∙ ap (λ (z : Fault). orElse (again used ts) (orElse (faultIn WantsName ts) z))
     (ap (λ (m : ℕ). orElse (faultAt m (at + length x)) (faults (closed d (ends (steps WantsName (texts ts)))) us)) (whole-clean d (steps WantsName (texts ts)) r w)
     ∙ ap (λ (q : Read). faults (closed d q) us) w ∙ sym ih))
+
+-- the rules of the segments are those of the whole pack's tokens
+pub halt-whole : (s : Text) → halt outset (tokens 0 s) (length s) ≡ behind [] (rulesFrom 0 (segments s))
+halt-whole s =
+    let k = some-segments s in
+    let x = firstOf (segments s) in
+    let xs = othersOf (segments s) in
+    let q : packEnd 0 x xs ≡ length s = omega (arith, end-is 0 s) in
+    rw (tokens-whole s, ← q) (same-halt [] 0 x xs (rw k at (plain-segments s)) ∙ ap (λ (l : List Text). behind [] (rulesFrom 0 l)) (sym k))
 
 -- READ WHOLE: the answer by the whole pack's tokens
 pub read-whole : (s : Text)
@@ -303,13 +312,10 @@ read-whole s =
     let x = firstOf (segments s) in
     let xs = othersOf (segments s) in
     let p : all plain (x ∷ xs) ≡ true = rw k at (plain-segments s) in
-    let q : packEnd 0 x xs ≡ length s = omega (arith, end-is 0 s) in
-    let i : halt outset (tokens 0 s) (length s) ≡ behind [] (rulesFrom 0 (segments s)) =
-        rw (tokens-whole s, ← q) (same-halt [] 0 x xs p ∙ ap (λ (l : List Text). behind [] (rulesFrom 0 l)) (sym k)) in
     ap (λ (z : PackAnswer). if ltb maxBytes (length s) then Refused PackTooLong else z)
     (go (rulesFrom 0 (segments s)) refl
     (λ rs e. ap (faultFrom [] 0) k ∙ faults-whole [] [] 0 x xs rs p (λ t. refl) (rw k at e) ∙ ap (faults outset) (sym (tokens-whole s)))
-    ∙ ap (λ (z : Parsed). judge z (faults outset (tokens 0 s))) (sym i))
+    ∙ ap (λ (z : Parsed). judge z (faults outset (tokens 0 s))) (sym (halt-whole s)))
   where
     go : (z : Parsed) → rulesFrom 0 (segments s) ≡ z → ((rs : List RuleTree) → rulesFrom 0 (segments s) ≡ Trees rs → faultFrom [] 0 (segments s) ≡ faults outset (tokens 0 s))
         → judge z (faultFrom [] 0 (segments s)) ≡ judge (behind [] z) (faults outset (tokens 0 s))
