@@ -1,15 +1,17 @@
 -- The arrays of a pack while it is read, and how a token changes them; the answer at the pack's end. A relation, a clause and a rule are stored when
 -- the token behind them closes them.
+use mathlib.Core.Path.{_≡_}
 use mathlib.Core.Bool.{Bool, true, false}
 use mathlib.Core.List.{List, [], _∷_}
 use Prim.Native.Nat.{ℕ, _-_}
 use lib.Dec.{eqb}
-use lib.ListN.{set}
+use lib.ListN.{length, set}
 use Rattle.decimal.specs.Choice.{if_then_else_}
 use Rattle.answer.specs.declared.PackRow.the-variants.{NotAPack}
-use Rattle.answer.specs.declared.Refusal.the-variants.{Pack}
-use Rattle.token.specs.Token.{Token}
-use Rattle.grammar.specs.Grammar.{Text}
+use Rattle.answer.specs.declared.Refusal.the-variants.{Pack as OfPack}
+use Rattle.rules.specs.declared.Pack.{Pack}
+use Rattle.token.specs.Token.{Token, tokens}
+use Rattle.grammar.specs.Grammar.{Text, semi}
 use Rattle.grammar.specs.Reader.{rowOf}
 use Rattle.phase.specs.Next.{phaseNumber}
 use Rattle.phase.specs.declared.Phase.the-variants.{Name}
@@ -18,6 +20,7 @@ use Rattle.walk.specs.declared.Counts.{Counts}
 use Rattle.walk.specs.declared.Closes.{Closes}
 use Rattle.walk.specs.declared.Current.{Current}
 use Rattle.walk.specs.declared.Walk.{Walk}
+use Rattle.pack.specs.declared.PackReading.{PackReading}
 use Rattle.pack.specs.declared.Verdict.{Verdict}
 use Rattle.pack.specs.declared.Verdict.the-variants.{Good, Refused}
 
@@ -99,13 +102,52 @@ boards b (t ∷ ts) = boards (boardAfter b (t .text) (t .at)) ts
 -- ---- at the pack's end, behind a last `;`: a rule has been closed there, or nothing could follow
 
 abbrev pub faultVerdict : ℕ → ℕ → Verdict
-faultVerdict row place = if eqb row 0 then Good else Refused (Pack (rowOf row) (record { 0 = place }))
+faultVerdict row place = if eqb row 0 then Good else Refused (OfPack (rowOf row) (record { 0 = place }))
 
 abbrev pub judged : Walk → Verdict
 judged w =
     if eqb (phaseNumber (w .phase)) 0 then faultVerdict (w .mark .row) (w .mark .place) else
-    Refused (Pack NotAPack (record { 0 = w .mark .stop }))
+    Refused (OfPack NotAPack (record { 0 = w .mark .stop }))
 
 abbrev pub counted : Verdict → ℕ → ℕ
 counted Good n = n
 counted (Refused r) n = 0
+
+-- ---- the whole pack
+
+pub record Sized (a : Arrays) : Type 0 where
+  pub low : length (a .low) ≡ 2048
+  pub high : length (a .high) ≡ 2048
+  pub operand : length (a .operand) ≡ 320
+  pub modulus : length (a .modulus) ≡ 320
+  pub negated : length (a .negated) ≡ 320
+  pub ranges : length (a .ranges) ≡ 320
+  pub relations : length (a .relations) ≡ 40
+  pub keyword : length (a .keyword) ≡ 6
+  pub clauses : length (a .clauses) ≡ 6
+
+-- the board behind a pack's tokens and a last `;`
+abbrev pub lastBoard : Arrays → Text → Board
+lastBoard a s = boardAfter (boards (record { walk = startWalk; arrays = a }) (tokens 0 s)) semi (length s)
+
+abbrev pub packOf : Arrays → ℕ → Pack
+packOf a n =
+    record {
+      low = a .low;
+      high = a .high;
+      operand = a .operand;
+      modulus = a .modulus;
+      negated = a .negated;
+      ranges = a .ranges;
+      relations = a .relations;
+      keyword = a .keyword;
+      clauses = a .clauses;
+      count = n;
+    }
+
+-- a reading holds what the last board has, whatever the arrays held before
+pub record ReadOf (r : PackReading) (s : Text) : Type 0 where
+  pub from : Arrays
+  pub sized : Sized from
+  pub verdict : r .verdict ≡ judged (lastBoard from s .walk)
+  pub pack : r .pack ≡ packOf (lastBoard from s .arrays) (counted (judged (lastBoard from s .walk)) (lastBoard from s .walk .counts .rules))

@@ -14,7 +14,7 @@ ghost use Rattle.grammar.specs.Reader.{rowOf, readPack};
 ghost use Rattle.phase.specs.Next.{phaseNumber};
 ghost use Rattle.walk.specs.Steps.{capped, closesAt, countsAfter};
 ghost use Rattle.pack.specs.Answer.{verdictOf, rulesOf};
-ghost use Rattle.pack.specs.Board.{arraysOf, boardOf, setIf, filled, boardAfter, boards, startWalk, faultVerdict, judged, counted};
+ghost use Rattle.pack.specs.Board.{arraysOf, boardOf, setIf, filled, boardAfter, boards, startWalk, faultVerdict, judged, counted, ReadOf};
 use answer::PackRow;
 use answer::Place;
 use answer::Refusal;
@@ -342,4 +342,71 @@ fn count_of(v: Verdict, n: usize) -> usize
         Verdict::Good => n,
         Verdict::Refused(_) => 0,
     }
+}
+
+// A pack without rules.
+fn empty() -> Pack
+    ensures { λ r. ⌜ r .count ≡ 0 ⌝ }
+{
+    Pack {
+        low: [0; 2048],
+        high: [0; 2048],
+        operand: [0; 320],
+        modulus: [0; 320],
+        negated: [false; 320],
+        ranges: [0; 320],
+        relations: [0; 40],
+        keyword: [0; 6],
+        clauses: [0; 6],
+        count: 0,
+    }
+}
+
+// A pack of at most 4,096 bytes.
+fn read_short(s: &[u8]) -> PackReading
+    ensures { λ r. ⌜ ReadOf r (now (s .entry)) ⌝ }
+{
+    let mut low = [0u32; 2048];
+    let mut high = [0u32; 2048];
+    let mut operand = [0u8; 320];
+    let mut modulus = [0u32; 320];
+    let mut negated = [false; 320];
+    let mut ranges = [0usize; 320];
+    let mut relations = [0usize; 40];
+    let mut keyword = [0u8; 6];
+    let mut clauses = [0usize; 6];
+    let n = s.len();
+    let w = read_tokens(s, &mut low, &mut high, &mut operand, &mut modulus, &mut negated, &mut ranges, &mut relations, &mut keyword, &mut clauses);
+    let e = take_token(b";", n, w, &mut low, &mut high, &mut operand, &mut modulus, &mut negated, &mut ranges, &mut relations, &mut keyword, &mut clauses);
+    let c = e.counts;
+    let v = judge(e);
+    let count = count_of(v, c.rules);
+    PackReading {
+        verdict: v,
+        pack: Pack {
+            low: low,
+            high: high,
+            operand: operand,
+            modulus: modulus,
+            negated: negated,
+            ranges: ranges,
+            relations: relations,
+            keyword: keyword,
+            clauses: clauses,
+            count: count,
+        },
+    }
+}
+
+// Reads a pack, any bytes: its rules, or refusal 20 to 26.
+pub fn read_pack(s: &[u8]) -> PackReading
+    ensures { λ r. ⌜ (r .verdict ≡ verdictOf (readPack (now (s .entry)))) × (heldRules (r .pack) ≡ rulesOf (readPack (now (s .entry)))) ⌝ }
+{
+    if MAX_BYTES < s.len() {
+        return PackReading {
+            verdict: Verdict::Refused(Refusal::PackTooLong),
+            pack: empty(),
+        };
+    }
+    read_short(s)
 }

@@ -1,0 +1,18 @@
+use borrow.Author.Needs.{needs}
+use Rattle.pack.proofs.read_pack.Statement.{statement}
+use Rattle.pack.proofs.read_pack.Tie as tie
+
+empty-requires : tie.Need-empty-requires
+empty-requires c κs = search needs
+
+returns : tie.Need-returns
+returns c = ?
+
+read-short-requires : tie.Need-read-short-requires
+read-short-requires c κs = search needs
+
+returns-2 : tie.Need-returns-2
+returns-2 c = ?
+
+pub read-pack-spec : {M : Type 1} → statement M
+read-pack-spec = tie.close (tie.spec empty-requires returns read-short-requires returns-2)
