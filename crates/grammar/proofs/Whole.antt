@@ -235,7 +235,7 @@ segment-faults used d (t ∷ ts) us n h =
     ∙ ap (orElse (again used (t ∷ ts))) (goes-on (faultAt (trouble WantsName (t .text)) (t .at)) _ _))
 
 -- a whole state has no fault at `;`
-whole-clean : (d : List RuleTree) (s : State) (r : RuleTree) → ends s ≡ Whole r → faultOn (record { rules = d; state = s }) semi ≡ 0
+pub whole-clean : (d : List RuleTree) (s : State) (r : RuleTree) → ends s ≡ Whole r → faultOn (record { rules = d; state = s }) semi ≡ 0
 whole-clean d WantsName r e = absurd (let z : _≡_ {A = ℕ} 0 1 = cc in omega arith)
 whole-clean d (WantsColon k) r e = refl
 whole-clean d (WantsNothing k) r e = refl

@@ -1,3 +1,5 @@
 pub mod Boards
 pub mod Flats
 pub mod Tally
+pub mod Levels
+pub mod Holds
