@@ -406,3 +406,169 @@ module _ (d : List RuleTree) (f : Front) (h : HeadTree) (vs : List RangeTree) (v
         keyed = keyed-more d t (b .keyed) (w .keyed .known);
         room = omega (arith, b .room);
       }
+
+-- ---- `other:` closed
+
+pub close-bare : (d : List RuleTree) (k : Text) (c : Counts) (o : Current) (a : Arrays) (at n p : ℕ) → Base d none [] c a at → Keyed d k o → at ≤ p
+    → Base (d ++ (Bare k ∷ [])) none [] (after (closes false false true) c) (filled 2 n (closes false false true) c (after (closes false false true) c) o a) (suc p)
+close-bare d k c o a at n p b w l =
+    let z = b .sized in
+    let more = d ++ (Bare k ∷ []) in
+    let r = ruleOf (Bare k) in
+    let q = C-bare d k in
+    let j : Cs more none ≡ Cs d none = ap (λ (x : List (List Relation)). x ++ []) q in
+    let e : Rs more none ≡ Rs d none = ap (λ (x : List (List Relation)). flat x ++ []) j in
+    let g : Gs more none [] ≡ Gs d none [] = ap (λ (x : List Relation). flat (map (λ (r : Relation). r .ranges) x) ++ []) e in
+    let u = numbers-snoc d (Bare k) in
+    let m = rules-more (a .keyword) (a .clauses) (c .rules) (o .key) (c .clauses) (numbers d) (Ds d) r (b .kept .rules) (z .keyword) (z .clauses)
+        (omega (arith, b .kept .rules .count, rules-room d k o (b .tally) w))
+        (b .kept .clauses .count ∙ length-append (closedClauses d) []) in
+    let x1 : numbers d ++ (o .key ∷ []) ≡ numbers more = ap (λ (x : ℕ). numbers d ++ (x ∷ [])) (w .key) ∙ sym u in
+    let x2 : Ds d ++ (r ∷ []) ≡ Ds more = sym (map-snoc ruleOf d (Bare k)) in
+    record {
+      kept =
+        record {
+          ranges = subst (λ (x : List Range). Ranges (a .low) (a .high) (c .ranges) x) (sym g) (b .kept .ranges);
+          relations = subst (λ (x : List Relation). Relations (a .operand) (a .modulus) (a .negated) (a .ranges) (c .relations) x) (sym e) (b .kept .relations);
+          clauses = subst (λ (x : List (List Relation)). Clauses (a .relations) (c .clauses) x) (sym j) (b .kept .clauses);
+          rules =
+            subst (λ (x : List ℕ). Rules (set (a .keyword) (c .rules) (o .key)) (set (a .clauses) (c .rules) (c .clauses)) (moreOf (c .rules)) x (Ds more)) x1
+            (subst (λ (x : List Rule). Rules (set (a .keyword) (c .rules) (o .key)) (set (a .clauses) (c .rules) (c .clauses)) (moreOf (c .rules)) (numbers d ++ (o .key ∷ [])) x) x2 m);
+        };
+      sized =
+        record {
+          low = z .low;
+          high = z .high;
+          operand = z .operand;
+          modulus = z .modulus;
+          negated = z .negated;
+          ranges = z .ranges;
+          relations = z .relations;
+          keyword = length-set (a .keyword) (c .rules) (o .key) ∙ z .keyword;
+          clauses = length-set (a .clauses) (c .rules) (c .clauses) ∙ z .clauses;
+        };
+      values = b .values;
+      joined = b .joined;
+      parted = refl;
+      tally =
+        subst (λ (x : List ℕ). Tally x (conditions more)) (sym u)
+        (subst (λ (x : ℕ). Tally (numbers d ++ (keywordNumber k ∷ [])) x) (sym (conditions-bare d k))
+        (tally-bare (numbers d) (conditions d) (keywordNumber k) (b .tally) (w .known) (w .new)));
+      closed = omega (arith, conditions-bare d k, b .closed, ap length q);
+      per = subst (λ (x : List (List Relation)). length (flat x) ≤ 8 * length x) (sym j) (b .per);
+      keyed = keyed-more d (Bare k) (b .keyed) (w .known);
+      room = omega (arith, b .room);
+    }
+
+-- ---- a value, and the upper end of a range
+
+pub add-value : (d : List RuleTree) (f : Front) (vs : List RangeTree) (t : Text) (c : Counts) (o : Current) (a : Arrays) (at n p : ℕ) → Base d f vs c a at
+    → n ≡ value t → 2 * c .ranges + 1 ≤ p → p ≤ maxBytes → length vs < 16
+    → Base d f (vs ++ (One t ∷ [])) (countsAfter c true (closes false false false)) (filled 7 n (closes false false false) c (countsAfter c true (closes false false false)) o a) (suc p)
+add-value d f vs t c o a at n p b e l m h =
+    let z = b .sized in
+    let g : Gs d f (vs ++ (One t ∷ [])) ≡ Gs d f vs ++ (record { low = n; high = n } ∷ []) = G-value d f vs (One t) ∙ ap (λ (x : ℕ). Gs d f vs ++ (record { low = x; high = x } ∷ [])) (sym e) in
+    let k : moreOf (c .ranges) ≡ suc (c .ranges) = more-is (c .ranges) (omega arith) in
+    record {
+      kept =
+        record {
+          ranges =
+            subst (λ (x : List Range). Ranges (set (a .low) (c .ranges) n) (set (a .high) (c .ranges) n) (moreOf (c .ranges)) x) (sym g)
+            (ranges-more (a .low) (a .high) (c .ranges) n (Gs d f vs) (b .kept .ranges) (z .low) (z .high) (omega arith));
+          relations = b .kept .relations;
+          clauses = b .kept .clauses;
+          rules = b .kept .rules;
+        };
+      sized =
+        record {
+          low = length-set (a .low) (c .ranges) n ∙ z .low;
+          high = length-set (a .high) (c .ranges) n ∙ z .high;
+          operand = z .operand;
+          modulus = z .modulus;
+          negated = z .negated;
+          ranges = z .ranges;
+          relations = z .relations;
+          keyword = z .keyword;
+          clauses = z .clauses;
+        };
+      values = more-is (c .values) (omega (arith, b .values)) ∙ omega (arith, b .values, length-append vs (One t ∷ []));
+      joined = b .joined;
+      parted = b .parted;
+      tally = b .tally;
+      closed = b .closed;
+      per = b .per;
+      keyed = b .keyed;
+      room = omega arith;
+    }
+
+pub add-upper : (d : List RuleTree) (f : Front) (vs : List RangeTree) (x t : Text) (c : Counts) (o : Current) (a : Arrays) (at n p : ℕ)
+    → Base d f (vs ++ (One x ∷ [])) c a at → n ≡ value t → at ≤ p → p ≤ maxBytes
+    → Base d f (vs ++ (Span x t ∷ [])) (countsAfter c false (closes false false false)) (filled 9 n (closes false false false) c (countsAfter c false (closes false false false)) o a) (suc p)
+add-upper d f vs x t c o a at n p b e l m =
+    let z = b .sized in
+    let g : Gs d f (vs ++ (Span x t ∷ [])) ≡ Gs d f vs ++ (record { low = value x; high = n } ∷ []) = G-value d f vs (Span x t) ∙ ap (λ (y : ℕ). Gs d f vs ++ (record { low = value x; high = y } ∷ [])) (sym e) in
+    let q : Ranges (a .low) (a .high) (c .ranges) (Gs d f vs ++ (record { low = value x; high = value x } ∷ [])) =
+        subst (λ (y : List Range). Ranges (a .low) (a .high) (c .ranges) y) (G-value d f vs (One x)) (b .kept .ranges) in
+    record {
+      kept =
+        record {
+          ranges =
+            subst (λ (y : List Range). Ranges (a .low) (set (a .high) (c .ranges - 1) n) (c .ranges) y) (sym g)
+            (ranges-last (a .low) (a .high) (c .ranges) (value x) n (Gs d f vs) q (omega (arith, z .high, b .room)));
+          relations = b .kept .relations;
+          clauses = b .kept .clauses;
+          rules = b .kept .rules;
+        };
+      sized =
+        record {
+          low = z .low;
+          high = length-set (a .high) (c .ranges - 1) n ∙ z .high;
+          operand = z .operand;
+          modulus = z .modulus;
+          negated = z .negated;
+          ranges = z .ranges;
+          relations = z .relations;
+          keyword = z .keyword;
+          clauses = z .clauses;
+        };
+      values = b .values ∙ length-append vs (One x ∷ []) ∙ sym (length-append vs (Span x t ∷ []));
+      joined = b .joined;
+      parted = b .parted;
+      tally = b .tally;
+      closed = b .closed;
+      per = b .per;
+      keyed = b .keyed;
+      room = omega (arith, b .room);
+    }
+
+-- a place further on
+pub later : {d : List RuleTree} {f : Front} {vs : List RangeTree} {c : Counts} {a : Arrays} {at : ℕ} (p : ℕ) → at ≤ p → Base d f vs c a at → Base d f vs c a (suc p)
+later p l b =
+    record {
+      kept = b .kept;
+      sized = b .sized;
+      values = b .values;
+      joined = b .joined;
+      parted = b .parted;
+      tally = b .tally;
+      closed = b .closed;
+      per = b .per;
+      keyed = b .keyed;
+      room = omega (arith, b .room);
+    }
+
+-- a rule begun: nothing is open in it yet
+pub begun : {d : List RuleTree} {c : Counts} {a : Arrays} {at : ℕ} (k : Text) → Base d none [] c a at → Base d (record { name = k; clauses = []; relations = [] }) [] c a at
+begun k b =
+    record {
+      kept = b .kept;
+      sized = b .sized;
+      values = b .values;
+      joined = b .joined;
+      parted = b .parted;
+      tally = b .tally;
+      closed = b .closed;
+      per = b .per;
+      keyed = b .keyed;
+      room = b .room;
+    }

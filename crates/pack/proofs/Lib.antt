@@ -3,3 +3,4 @@ pub mod Flats
 pub mod Tally
 pub mod Levels
 pub mod Holds
+pub mod Moves
