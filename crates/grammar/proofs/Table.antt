@@ -202,7 +202,7 @@ pub record First (p : Far) (ts : List Token) (n a : ℕ) : Type 0 where
   pub clean : faults p before ≡ None
   pub here : faultOn (far p (texts before)) (token .text) ≡ n
 
-fault-none : (n a : ℕ) → faultAt n a ≡ None → n ≡ 0
+pub fault-none : (n a : ℕ) → faultAt n a ≡ None → n ≡ 0
 fault-none n a e = go (eqb n 0) refl e
   where
     go : (b : Bool) → eqb n 0 ≡ b → (if b then None else At n a) ≡ None → n ≡ 0

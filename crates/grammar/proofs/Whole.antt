@@ -172,7 +172,7 @@ faults p [] = None
 faults p (t ∷ ts) = orElse (faultAt (faultOn p (t .text)) (t .at)) (faults (onward p (t .text)) ts)
 
 -- behind its keyword a segment wants none again
-goes-on : (f : Fault) (g h : Fault) → orElse f (orElse g h) ≡ orElse (orElse f g) h
+pub goes-on : (f : Fault) (g h : Fault) → orElse f (orElse g h) ≡ orElse (orElse f g) h
 goes-on None g h = refl
 goes-on (At n p) g h = refl
 

@@ -59,8 +59,8 @@ turn b e s at white m he hw hm h =
     let p = piece u l in
     record {
       rest =
-        ap (boards e) (ap (tokens (at + m)) (sym (drop-drop m at s))) ∙ rw (he, hw, q)
-        (sym (ap (boards b) (tokens-turn at u l) ∙ turn-if (isWhite u) b (take (pieceLen u) u) at (tokens (at + pieceLen u) (drop (pieceLen u) u))));
+          ap (boards e) (ap (tokens (at + m)) (sym (drop-drop m at s))) ∙ rw (he, hw, q)
+          (sym (ap (boards b) (tokens-turn at u l) ∙ turn-if (isWhite u) b (take (pieceLen u) u) at (tokens (at + pieceLen u) (drop (pieceLen u) u))));
       some = omega arith;
       within = omega (arith, length-drop at s);
     }
@@ -82,6 +82,6 @@ read-of s {a} {b} {e} {w} {u} {v} {n} z h1 h2 hv hn =
       sized = z;
       verdict = k;
       pack =
-        ap (packOf e) (hn ∙ ap (λ (x : Verdict). counted x (u .counts .rules)) k)
-        ∙ ap (λ (x : Board). packOf (x .arrays) (counted (judged (lastBoard a s .walk)) (x .walk .counts .rules))) q;
+          ap (packOf e) (hn ∙ ap (λ (x : Verdict). counted x (u .counts .rules)) k)
+          ∙ ap (λ (x : Board). packOf (x .arrays) (counted (judged (lastBoard a s .walk)) (x .walk .counts .rules))) q;
     }

@@ -155,19 +155,19 @@ held-back a n m k r ks rules cs rels rs h1 h2 h3 h4 e1 e2 e3 e4 =
     let g1 : rangesFrom (a .low) (a .high) ≡ rs ++ g .0 = ap (λ l. rangesFrom l (a .high)) (front (a .low) n _ (h1 .lows)) ∙ ap (rangesFrom (map (λ (r : Range). r .low) rs ++ drop n (a .low))) (front (a .high) n _ (h1 .highs)) ∙ g .1 in
     let p = parts-are (map (λ (r : Relation). r .ranges) rels) (drop m (a .ranges)) [] (g .0) in
     let p1 : parts 0 (a .ranges) (rangesFrom (a .low) (a .high)) ≡ map (λ (r : Relation). r .ranges) rels ++ p .0 =
-        ap (parts 0 (a .ranges)) (g1 ∙ ap (λ l. l ++ g .0) e1) ∙ ap (λ l. parts 0 l (flat (map (λ (r : Relation). r .ranges) rels) ++ g .0)) (front (a .ranges) m _ (h2 .ends-at)) ∙ p .1 in
+    ap (parts 0 (a .ranges)) (g1 ∙ ap (λ l. l ++ g .0) e1) ∙ ap (λ l. parts 0 l (flat (map (λ (r : Relation). r .ranges) rels) ++ g .0)) (front (a .ranges) m _ (h2 .ends-at)) ∙ p .1 in
     let q = relations-back rels (drop m (a .operand)) (drop m (a .modulus)) (drop m (a .negated)) (p .0) in
     let q1 : relationsFrom (a .operand) (a .modulus) (a .negated) (parts 0 (a .ranges) (rangesFrom (a .low) (a .high))) ≡ rels ++ q .0 =
-        ap (λ l. relationsFrom l (a .modulus) (a .negated) (parts 0 (a .ranges) (rangesFrom (a .low) (a .high)))) (front (a .operand) m _ (h2 .operands))
-        ∙ ap (λ l. relationsFrom (map (λ (r : Relation). r .operand) rels ++ drop m (a .operand)) l (a .negated) (parts 0 (a .ranges) (rangesFrom (a .low) (a .high)))) (front (a .modulus) m _ (h2 .moduli))
-        ∙ ap (λ l. relationsFrom (map (λ (r : Relation). r .operand) rels ++ drop m (a .operand)) (map (λ (r : Relation). r .modulus) rels ++ drop m (a .modulus)) l (parts 0 (a .ranges) (rangesFrom (a .low) (a .high)))) (front (a .negated) m _ (h2 .signs))
-        ∙ ap (relationsFrom (map (λ (r : Relation). r .operand) rels ++ drop m (a .operand)) (map (λ (r : Relation). r .modulus) rels ++ drop m (a .modulus)) (map (λ (r : Relation). r .negated) rels ++ drop m (a .negated))) p1
-        ∙ q .1 in
+    ap (λ l. relationsFrom l (a .modulus) (a .negated) (parts 0 (a .ranges) (rangesFrom (a .low) (a .high)))) (front (a .operand) m _ (h2 .operands))
+    ∙ ap (λ l. relationsFrom (map (λ (r : Relation). r .operand) rels ++ drop m (a .operand)) l (a .negated) (parts 0 (a .ranges) (rangesFrom (a .low) (a .high)))) (front (a .modulus) m _ (h2 .moduli))
+    ∙ ap (λ l. relationsFrom (map (λ (r : Relation). r .operand) rels ++ drop m (a .operand)) (map (λ (r : Relation). r .modulus) rels ++ drop m (a .modulus)) l (parts 0 (a .ranges) (rangesFrom (a .low) (a .high)))) (front (a .negated) m _ (h2 .signs))
+    ∙ ap (relationsFrom (map (λ (r : Relation). r .operand) rels ++ drop m (a .operand)) (map (λ (r : Relation). r .modulus) rels ++ drop m (a .modulus)) (map (λ (r : Relation). r .negated) rels ++ drop m (a .negated))) p1
+    ∙ q .1 in
     let c = parts-are cs (drop k (a .relations)) [] (q .0) in
     let c1 : parts 0 (a .relations) (relationsFrom (a .operand) (a .modulus) (a .negated) (parts 0 (a .ranges) (rangesFrom (a .low) (a .high)))) ≡ cs ++ c .0 =
-        ap (parts 0 (a .relations)) (q1 ∙ ap (λ l. l ++ q .0) e2) ∙ ap (λ l. parts 0 l (flat cs ++ q .0)) (front (a .relations) k _ (h3 .ends-at)) ∙ c .1 in
+    ap (parts 0 (a .relations)) (q1 ∙ ap (λ l. l ++ q .0) e2) ∙ ap (λ l. parts 0 l (flat cs ++ q .0)) (front (a .relations) k _ (h3 .ends-at)) ∙ c .1 in
     let d = parts-are (map (λ (r : Rule). r .clauses) rules) (drop r (a .clauses)) [] (c .0) in
     let d1 : parts 0 (a .clauses) (parts 0 (a .relations) (relationsFrom (a .operand) (a .modulus) (a .negated) (parts 0 (a .ranges) (rangesFrom (a .low) (a .high))))) ≡ map (λ (r : Rule). r .clauses) rules ++ d .0 =
-        ap (parts 0 (a .clauses)) (c1 ∙ ap (λ l. l ++ c .0) e3) ∙ ap (λ l. parts 0 l (flat (map (λ (r : Rule). r .clauses) rules) ++ c .0)) (front (a .clauses) r _ (h4 .ends-at)) ∙ d .1 in
+    ap (parts 0 (a .clauses)) (c1 ∙ ap (λ l. l ++ c .0) e3) ∙ ap (λ l. parts 0 l (flat (map (λ (r : Rule). r .clauses) rules) ++ c .0)) (front (a .clauses) r _ (h4 .ends-at)) ∙ d .1 in
     ap (λ l. rulesFrom l (parts 0 (a .clauses) (parts 0 (a .relations) (relationsFrom (a .operand) (a .modulus) (a .negated) (parts 0 (a .ranges) (rangesFrom (a .low) (a .high))))))) (h4 .keys)
     ∙ ap (rulesFrom ks) d1 ∙ rules-back ks rules (d .0) e4

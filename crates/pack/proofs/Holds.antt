@@ -244,25 +244,25 @@ module _ (d : List RuleTree) (f : Front) (h : HeadTree) (vs : List RangeTree) (v
       let e : Rs d andFront ≡ Rs d f ++ (relation ∷ []) = R-and (Cs d f) (f .relations) (Rel h vs v) ∙ ap (λ (r : Relation). Rs d f ++ (r ∷ [])) R-one in
       record {
         kept =
-          record {
-            ranges = subst (λ (x : List Range). Ranges (a .low) (a .high) (c .ranges) x) (sym (G-same (Rs d andFront) e)) (b .kept .ranges);
-            relations =
-              subst (λ (x : List Relation). Relations (set (a .operand) (c .relations) (o .operand)) (set (a .modulus) (c .relations) (o .modulus)) (set (a .negated) (c .relations) (o .negated)) (set (a .ranges) (c .relations) (c .ranges)) (moreOf (c .relations)) x) (sym e) relations-closed;
-            clauses = b .kept .clauses;
-            rules = b .kept .rules;
-          };
+            record {
+              ranges = subst (λ (x : List Range). Ranges (a .low) (a .high) (c .ranges) x) (sym (G-same (Rs d andFront) e)) (b .kept .ranges);
+              relations =
+                  subst (λ (x : List Relation). Relations (set (a .operand) (c .relations) (o .operand)) (set (a .modulus) (c .relations) (o .modulus)) (set (a .negated) (c .relations) (o .negated)) (set (a .ranges) (c .relations) (c .ranges)) (moreOf (c .relations)) x) (sym e) relations-closed;
+              clauses = b .kept .clauses;
+              rules = b .kept .rules;
+            };
         sized =
-          record {
-            low = z .low;
-            high = z .high;
-            operand = length-set (a .operand) (c .relations) (o .operand) ∙ z .operand;
-            modulus = length-set (a .modulus) (c .relations) (o .modulus) ∙ z .modulus;
-            negated = length-set (a .negated) (c .relations) (o .negated) ∙ z .negated;
-            ranges = length-set (a .ranges) (c .relations) (c .ranges) ∙ z .ranges;
-            relations = z .relations;
-            keyword = z .keyword;
-            clauses = z .clauses;
-          };
+            record {
+              low = z .low;
+              high = z .high;
+              operand = length-set (a .operand) (c .relations) (o .operand) ∙ z .operand;
+              modulus = length-set (a .modulus) (c .relations) (o .modulus) ∙ z .modulus;
+              negated = length-set (a .negated) (c .relations) (o .negated) ∙ z .negated;
+              ranges = length-set (a .ranges) (c .relations) (c .ranges) ∙ z .ranges;
+              relations = z .relations;
+              keyword = z .keyword;
+              clauses = z .clauses;
+            };
         values = refl;
         joined = more-joined;
         parted = b .parted;
@@ -312,29 +312,29 @@ module _ (d : List RuleTree) (f : Front) (h : HeadTree) (vs : List RangeTree) (v
       let e : Rs d orFront ≡ Rs d f ++ (relation ∷ []) = R-clause (Cs d orFront) j in
       record {
         kept =
-          record {
-            ranges = subst (λ (x : List Range). Ranges (a .low) (a .high) (c .ranges) x) (sym (G-same (Rs d orFront) e)) (b .kept .ranges);
-            relations =
-              subst (λ (x : List Relation). Relations (set (a .operand) (c .relations) (o .operand)) (set (a .modulus) (c .relations) (o .modulus)) (set (a .negated) (c .relations) (o .negated)) (set (a .ranges) (c .relations) (c .ranges)) (moreOf (c .relations)) x) (sym e) relations-closed;
-            clauses = subst (λ (x : List (List Relation)). Clauses (set (a .relations) (c .clauses) (moreOf (c .relations))) (moreOf (c .clauses)) x) (sym j) clauses-closed;
-            rules = b .kept .rules;
-          };
+            record {
+              ranges = subst (λ (x : List Range). Ranges (a .low) (a .high) (c .ranges) x) (sym (G-same (Rs d orFront) e)) (b .kept .ranges);
+              relations =
+                  subst (λ (x : List Relation). Relations (set (a .operand) (c .relations) (o .operand)) (set (a .modulus) (c .relations) (o .modulus)) (set (a .negated) (c .relations) (o .negated)) (set (a .ranges) (c .relations) (c .ranges)) (moreOf (c .relations)) x) (sym e) relations-closed;
+              clauses = subst (λ (x : List (List Relation)). Clauses (set (a .relations) (c .clauses) (moreOf (c .relations))) (moreOf (c .clauses)) x) (sym j) clauses-closed;
+              rules = b .kept .rules;
+            };
         sized =
-          record {
-            low = z .low;
-            high = z .high;
-            operand = length-set (a .operand) (c .relations) (o .operand) ∙ z .operand;
-            modulus = length-set (a .modulus) (c .relations) (o .modulus) ∙ z .modulus;
-            negated = length-set (a .negated) (c .relations) (o .negated) ∙ z .negated;
-            ranges = length-set (a .ranges) (c .relations) (c .ranges) ∙ z .ranges;
-            relations = length-set (a .relations) (c .clauses) (moreOf (c .relations)) ∙ z .relations;
-            keyword = z .keyword;
-            clauses = z .clauses;
-          };
+            record {
+              low = z .low;
+              high = z .high;
+              operand = length-set (a .operand) (c .relations) (o .operand) ∙ z .operand;
+              modulus = length-set (a .modulus) (c .relations) (o .modulus) ∙ z .modulus;
+              negated = length-set (a .negated) (c .relations) (o .negated) ∙ z .negated;
+              ranges = length-set (a .ranges) (c .relations) (c .ranges) ∙ z .ranges;
+              relations = length-set (a .relations) (c .clauses) (moreOf (c .relations)) ∙ z .relations;
+              keyword = z .keyword;
+              clauses = z .clauses;
+            };
         values = refl;
         joined = refl;
         parted =
-          more-is (c .parted) (omega (arith, b .parted, s .clauses)) ∙ omega (arith, b .parted, length-append (f .clauses) (Joined (f .relations) (Rel h vs v) ∷ []));
+            more-is (c .parted) (omega (arith, b .parted, s .clauses)) ∙ omega (arith, b .parted, length-append (f .clauses) (Joined (f .relations) (Rel h vs v) ∷ []));
         tally = b .tally;
         closed = b .closed;
         per = per-clause (Cs d orFront) j;
@@ -355,8 +355,8 @@ module _ (d : List RuleTree) (f : Front) (h : HeadTree) (vs : List RangeTree) (v
       let k = clauses-room d f (vs ++ (v ∷ [])) c o a at w s in
       let q = b .kept .clauses .count in
       let m = rules-more (a .keyword) (a .clauses) (c .rules) (o .key) (moreOf (c .clauses)) (numbers d) (Ds d) r (b .kept .rules) (b .sized .keyword) (b .sized .clauses)
-          (omega (arith, b .kept .rules .count, rules-room d (f .name) o (b .tally) (w .keyed)))
-          (more-is (c .clauses) (omega arith) ∙ omega (arith, length-append (closedClauses d) (map clauseOf (f .clauses)), map-length clauseOf (f .clauses), rule-clauses)) in
+      (omega (arith, b .kept .rules .count, rules-room d (f .name) o (b .tally) (w .keyed)))
+      (more-is (c .clauses) (omega arith) ∙ omega (arith, length-append (closedClauses d) (map clauseOf (f .clauses)), map-length clauseOf (f .clauses), rule-clauses)) in
       let e : numbers d ++ (o .key ∷ []) ≡ numbers more = ap (λ (x : ℕ). numbers d ++ (x ∷ [])) (w .keyed .key) ∙ sym (numbers-snoc d (Named (f .name) (f .clauses) (Joined (f .relations) (Rel h vs v)))) in
       let g : Ds d ++ (r ∷ []) ≡ Ds more = sym (map-snoc ruleOf d (Named (f .name) (f .clauses) (Joined (f .relations) (Rel h vs v)))) in
       subst (λ (x : List ℕ). Rules (set (a .keyword) (c .rules) (o .key)) (set (a .clauses) (c .rules) (moreOf (c .clauses))) (moreOf (c .rules)) x (Ds more)) e
@@ -374,34 +374,34 @@ module _ (d : List RuleTree) (f : Front) (h : HeadTree) (vs : List RangeTree) (v
       let u = numbers-snoc d t in
       record {
         kept =
-          record {
-            ranges = subst (λ (x : List Range). Ranges (a .low) (a .high) (c .ranges) x) (sym (G-same (Rs more none) e)) (b .kept .ranges);
-            relations =
-              subst (λ (x : List Relation). Relations (set (a .operand) (c .relations) (o .operand)) (set (a .modulus) (c .relations) (o .modulus)) (set (a .negated) (c .relations) (o .negated)) (set (a .ranges) (c .relations) (c .ranges)) (moreOf (c .relations)) x) (sym e) relations-closed;
-            clauses = subst (λ (x : List (List Relation)). Clauses (set (a .relations) (c .clauses) (moreOf (c .relations))) (moreOf (c .clauses)) x) (sym j) clauses-closed;
-            rules = rules-closed;
-          };
+            record {
+              ranges = subst (λ (x : List Range). Ranges (a .low) (a .high) (c .ranges) x) (sym (G-same (Rs more none) e)) (b .kept .ranges);
+              relations =
+                  subst (λ (x : List Relation). Relations (set (a .operand) (c .relations) (o .operand)) (set (a .modulus) (c .relations) (o .modulus)) (set (a .negated) (c .relations) (o .negated)) (set (a .ranges) (c .relations) (c .ranges)) (moreOf (c .relations)) x) (sym e) relations-closed;
+              clauses = subst (λ (x : List (List Relation)). Clauses (set (a .relations) (c .clauses) (moreOf (c .relations))) (moreOf (c .clauses)) x) (sym j) clauses-closed;
+              rules = rules-closed;
+            };
         sized =
-          record {
-            low = z .low;
-            high = z .high;
-            operand = length-set (a .operand) (c .relations) (o .operand) ∙ z .operand;
-            modulus = length-set (a .modulus) (c .relations) (o .modulus) ∙ z .modulus;
-            negated = length-set (a .negated) (c .relations) (o .negated) ∙ z .negated;
-            ranges = length-set (a .ranges) (c .relations) (c .ranges) ∙ z .ranges;
-            relations = length-set (a .relations) (c .clauses) (moreOf (c .relations)) ∙ z .relations;
-            keyword = length-set (a .keyword) (c .rules) (o .key) ∙ z .keyword;
-            clauses = length-set (a .clauses) (c .rules) (moreOf (c .clauses)) ∙ z .clauses;
-          };
+            record {
+              low = z .low;
+              high = z .high;
+              operand = length-set (a .operand) (c .relations) (o .operand) ∙ z .operand;
+              modulus = length-set (a .modulus) (c .relations) (o .modulus) ∙ z .modulus;
+              negated = length-set (a .negated) (c .relations) (o .negated) ∙ z .negated;
+              ranges = length-set (a .ranges) (c .relations) (c .ranges) ∙ z .ranges;
+              relations = length-set (a .relations) (c .clauses) (moreOf (c .relations)) ∙ z .relations;
+              keyword = length-set (a .keyword) (c .rules) (o .key) ∙ z .keyword;
+              clauses = length-set (a .clauses) (c .rules) (moreOf (c .clauses)) ∙ z .clauses;
+            };
         values = refl;
         joined = refl;
         parted = refl;
         tally =
-          subst (λ (x : List ℕ). Tally x (conditions more)) (sym u)
-          (subst (λ (x : ℕ). Tally (numbers d ++ (keywordNumber (f .name) ∷ [])) x) (sym y)
-          (tally-named (numbers d) (conditions d) (keywordNumber (f .name)) (b .tally) (w .keyed .known) (w .keyed .new) (number-other (f .name) (w .named))));
+            subst (λ (x : List ℕ). Tally x (conditions more)) (sym u)
+            (subst (λ (x : ℕ). Tally (numbers d ++ (keywordNumber (f .name) ∷ [])) x) (sym y)
+            (tally-named (numbers d) (conditions d) (keywordNumber (f .name)) (b .tally) (w .keyed .known) (w .keyed .new) (number-other (f .name) (w .named))));
         closed =
-          omega (arith, y, b .closed, ap length (closed-snoc d t), length-append (closedClauses d) (map clauseOf (f .clauses ++ (Joined (f .relations) (Rel h vs v) ∷ []))), rule-clauses, s .clauses);
+            omega (arith, y, b .closed, ap length (closed-snoc d t), length-append (closedClauses d) (map clauseOf (f .clauses ++ (Joined (f .relations) (Rel h vs v) ∷ []))), rule-clauses, s .clauses);
         per = per-clause (Cs more none) j;
         keyed = keyed-more d t (b .keyed) (w .keyed .known);
         room = omega (arith, b .room);
@@ -421,39 +421,39 @@ close-bare d k c o a at n p b w l =
     let g : Gs more none [] ≡ Gs d none [] = ap (λ (x : List Relation). flat (map (λ (r : Relation). r .ranges) x) ++ []) e in
     let u = numbers-snoc d (Bare k) in
     let m = rules-more (a .keyword) (a .clauses) (c .rules) (o .key) (c .clauses) (numbers d) (Ds d) r (b .kept .rules) (z .keyword) (z .clauses)
-        (omega (arith, b .kept .rules .count, rules-room d k o (b .tally) w))
-        (b .kept .clauses .count ∙ length-append (closedClauses d) []) in
+    (omega (arith, b .kept .rules .count, rules-room d k o (b .tally) w))
+    (b .kept .clauses .count ∙ length-append (closedClauses d) []) in
     let x1 : numbers d ++ (o .key ∷ []) ≡ numbers more = ap (λ (x : ℕ). numbers d ++ (x ∷ [])) (w .key) ∙ sym u in
     let x2 : Ds d ++ (r ∷ []) ≡ Ds more = sym (map-snoc ruleOf d (Bare k)) in
     record {
       kept =
-        record {
-          ranges = subst (λ (x : List Range). Ranges (a .low) (a .high) (c .ranges) x) (sym g) (b .kept .ranges);
-          relations = subst (λ (x : List Relation). Relations (a .operand) (a .modulus) (a .negated) (a .ranges) (c .relations) x) (sym e) (b .kept .relations);
-          clauses = subst (λ (x : List (List Relation)). Clauses (a .relations) (c .clauses) x) (sym j) (b .kept .clauses);
-          rules =
-            subst (λ (x : List ℕ). Rules (set (a .keyword) (c .rules) (o .key)) (set (a .clauses) (c .rules) (c .clauses)) (moreOf (c .rules)) x (Ds more)) x1
-            (subst (λ (x : List Rule). Rules (set (a .keyword) (c .rules) (o .key)) (set (a .clauses) (c .rules) (c .clauses)) (moreOf (c .rules)) (numbers d ++ (o .key ∷ [])) x) x2 m);
-        };
+          record {
+            ranges = subst (λ (x : List Range). Ranges (a .low) (a .high) (c .ranges) x) (sym g) (b .kept .ranges);
+            relations = subst (λ (x : List Relation). Relations (a .operand) (a .modulus) (a .negated) (a .ranges) (c .relations) x) (sym e) (b .kept .relations);
+            clauses = subst (λ (x : List (List Relation)). Clauses (a .relations) (c .clauses) x) (sym j) (b .kept .clauses);
+            rules =
+                subst (λ (x : List ℕ). Rules (set (a .keyword) (c .rules) (o .key)) (set (a .clauses) (c .rules) (c .clauses)) (moreOf (c .rules)) x (Ds more)) x1
+                (subst (λ (x : List Rule). Rules (set (a .keyword) (c .rules) (o .key)) (set (a .clauses) (c .rules) (c .clauses)) (moreOf (c .rules)) (numbers d ++ (o .key ∷ [])) x) x2 m);
+          };
       sized =
-        record {
-          low = z .low;
-          high = z .high;
-          operand = z .operand;
-          modulus = z .modulus;
-          negated = z .negated;
-          ranges = z .ranges;
-          relations = z .relations;
-          keyword = length-set (a .keyword) (c .rules) (o .key) ∙ z .keyword;
-          clauses = length-set (a .clauses) (c .rules) (c .clauses) ∙ z .clauses;
-        };
+          record {
+            low = z .low;
+            high = z .high;
+            operand = z .operand;
+            modulus = z .modulus;
+            negated = z .negated;
+            ranges = z .ranges;
+            relations = z .relations;
+            keyword = length-set (a .keyword) (c .rules) (o .key) ∙ z .keyword;
+            clauses = length-set (a .clauses) (c .rules) (c .clauses) ∙ z .clauses;
+          };
       values = b .values;
       joined = b .joined;
       parted = refl;
       tally =
-        subst (λ (x : List ℕ). Tally x (conditions more)) (sym u)
-        (subst (λ (x : ℕ). Tally (numbers d ++ (keywordNumber k ∷ [])) x) (sym (conditions-bare d k))
-        (tally-bare (numbers d) (conditions d) (keywordNumber k) (b .tally) (w .known) (w .new)));
+          subst (λ (x : List ℕ). Tally x (conditions more)) (sym u)
+          (subst (λ (x : ℕ). Tally (numbers d ++ (keywordNumber k ∷ [])) x) (sym (conditions-bare d k))
+          (tally-bare (numbers d) (conditions d) (keywordNumber k) (b .tally) (w .known) (w .new)));
       closed = omega (arith, conditions-bare d k, b .closed, ap length q);
       per = subst (λ (x : List (List Relation)). length (flat x) ≤ 8 * length x) (sym j) (b .per);
       keyed = keyed-more d (Bare k) (b .keyed) (w .known);
@@ -471,26 +471,26 @@ add-value d f vs t c o a at n p b e l m h =
     let k : moreOf (c .ranges) ≡ suc (c .ranges) = more-is (c .ranges) (omega arith) in
     record {
       kept =
-        record {
-          ranges =
-            subst (λ (x : List Range). Ranges (set (a .low) (c .ranges) n) (set (a .high) (c .ranges) n) (moreOf (c .ranges)) x) (sym g)
-            (ranges-more (a .low) (a .high) (c .ranges) n (Gs d f vs) (b .kept .ranges) (z .low) (z .high) (omega arith));
-          relations = b .kept .relations;
-          clauses = b .kept .clauses;
-          rules = b .kept .rules;
-        };
+          record {
+            ranges =
+                subst (λ (x : List Range). Ranges (set (a .low) (c .ranges) n) (set (a .high) (c .ranges) n) (moreOf (c .ranges)) x) (sym g)
+                (ranges-more (a .low) (a .high) (c .ranges) n (Gs d f vs) (b .kept .ranges) (z .low) (z .high) (omega arith));
+            relations = b .kept .relations;
+            clauses = b .kept .clauses;
+            rules = b .kept .rules;
+          };
       sized =
-        record {
-          low = length-set (a .low) (c .ranges) n ∙ z .low;
-          high = length-set (a .high) (c .ranges) n ∙ z .high;
-          operand = z .operand;
-          modulus = z .modulus;
-          negated = z .negated;
-          ranges = z .ranges;
-          relations = z .relations;
-          keyword = z .keyword;
-          clauses = z .clauses;
-        };
+          record {
+            low = length-set (a .low) (c .ranges) n ∙ z .low;
+            high = length-set (a .high) (c .ranges) n ∙ z .high;
+            operand = z .operand;
+            modulus = z .modulus;
+            negated = z .negated;
+            ranges = z .ranges;
+            relations = z .relations;
+            keyword = z .keyword;
+            clauses = z .clauses;
+          };
       values = more-is (c .values) (omega (arith, b .values)) ∙ omega (arith, b .values, length-append vs (One t ∷ []));
       joined = b .joined;
       parted = b .parted;
@@ -508,29 +508,29 @@ add-upper d f vs x t c o a at n p b e l m =
     let z = b .sized in
     let g : Gs d f (vs ++ (Span x t ∷ [])) ≡ Gs d f vs ++ (record { low = value x; high = n } ∷ []) = G-value d f vs (Span x t) ∙ ap (λ (y : ℕ). Gs d f vs ++ (record { low = value x; high = y } ∷ [])) (sym e) in
     let q : Ranges (a .low) (a .high) (c .ranges) (Gs d f vs ++ (record { low = value x; high = value x } ∷ [])) =
-        subst (λ (y : List Range). Ranges (a .low) (a .high) (c .ranges) y) (G-value d f vs (One x)) (b .kept .ranges) in
+    subst (λ (y : List Range). Ranges (a .low) (a .high) (c .ranges) y) (G-value d f vs (One x)) (b .kept .ranges) in
     record {
       kept =
-        record {
-          ranges =
-            subst (λ (y : List Range). Ranges (a .low) (set (a .high) (c .ranges - 1) n) (c .ranges) y) (sym g)
-            (ranges-last (a .low) (a .high) (c .ranges) (value x) n (Gs d f vs) q (omega (arith, z .high, b .room)));
-          relations = b .kept .relations;
-          clauses = b .kept .clauses;
-          rules = b .kept .rules;
-        };
+          record {
+            ranges =
+                subst (λ (y : List Range). Ranges (a .low) (set (a .high) (c .ranges - 1) n) (c .ranges) y) (sym g)
+                (ranges-last (a .low) (a .high) (c .ranges) (value x) n (Gs d f vs) q (omega (arith, z .high, b .room)));
+            relations = b .kept .relations;
+            clauses = b .kept .clauses;
+            rules = b .kept .rules;
+          };
       sized =
-        record {
-          low = z .low;
-          high = length-set (a .high) (c .ranges - 1) n ∙ z .high;
-          operand = z .operand;
-          modulus = z .modulus;
-          negated = z .negated;
-          ranges = z .ranges;
-          relations = z .relations;
-          keyword = z .keyword;
-          clauses = z .clauses;
-        };
+          record {
+            low = z .low;
+            high = length-set (a .high) (c .ranges - 1) n ∙ z .high;
+            operand = z .operand;
+            modulus = z .modulus;
+            negated = z .negated;
+            ranges = z .ranges;
+            relations = z .relations;
+            keyword = z .keyword;
+            clauses = z .clauses;
+          };
       values = b .values ∙ length-append vs (One x ∷ []) ∙ sym (length-append vs (Span x t ∷ []));
       joined = b .joined;
       parted = b .parted;

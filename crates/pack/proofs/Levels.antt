@@ -29,8 +29,8 @@ ranges-last low high n a v rs h l =
     record {
       lows = h .lows ∙ map-snoc (λ (r : Range). r .low) rs (record { low = a; high = a }) ∙ sym (map-snoc (λ (r : Range). r .low) rs (record { low = a; high = v }));
       highs =
-        fill-last high (map (λ (r : Range). r .high) rs) n a v l (h .highs ∙ map-snoc (λ (r : Range). r .high) rs (record { low = a; high = a }))
-        ∙ sym (map-snoc (λ (r : Range). r .high) rs (record { low = a; high = v }));
+          fill-last high (map (λ (r : Range). r .high) rs) n a v l (h .highs ∙ map-snoc (λ (r : Range). r .high) rs (record { low = a; high = a }))
+          ∙ sym (map-snoc (λ (r : Range). r .high) rs (record { low = a; high = v }));
       count = h .count ∙ length-append rs (record { low = a; high = a } ∷ []) ∙ sym (length-append rs (record { low = a; high = v } ∷ []));
     }
 
@@ -45,8 +45,8 @@ relations-more operand modulus negated ends n e rs r h l1 l2 l3 l4 k q =
       moduli = fill-more modulus n (r .modulus) _ (h .moduli) (omega arith) (omega arith) ∙ sym (map-snoc (λ (r : Relation). r .modulus) rs r);
       signs = fill-more negated n (r .negated) _ (h .signs) (omega arith) (omega arith) ∙ sym (map-snoc (λ (r : Relation). r .negated) rs r);
       ends-at =
-        fill-more ends n e _ (h .ends-at) (omega arith) (omega arith) ∙ ap (λ x. endsOf 0 (map (λ (r : Relation). r .ranges) rs) ++ (x ∷ [])) z
-        ∙ sym (ends-snoc 0 (map (λ (r : Relation). r .ranges) rs) (r .ranges)) ∙ ap (endsOf 0) (sym (map-snoc (λ (r : Relation). r .ranges) rs r));
+          fill-more ends n e _ (h .ends-at) (omega arith) (omega arith) ∙ ap (λ x. endsOf 0 (map (λ (r : Relation). r .ranges) rs) ++ (x ∷ [])) z
+          ∙ sym (ends-snoc 0 (map (λ (r : Relation). r .ranges) rs) (r .ranges)) ∙ ap (endsOf 0) (sym (map-snoc (λ (r : Relation). r .ranges) rs r));
       count = one-more n rs r (omega arith) (h .count);
     }
 
@@ -67,7 +67,7 @@ rules-more keyword ends n key e ks rs r h l1 l2 k q =
     record {
       keys = fill-more keyword n key _ (h .keys) (omega arith) (omega arith);
       ends-at =
-        fill-more ends n e _ (h .ends-at) (omega arith) (omega arith) ∙ ap (λ x. endsOf 0 (map (λ (r : Rule). r .clauses) rs) ++ (x ∷ [])) z
-        ∙ sym (ends-snoc 0 (map (λ (r : Rule). r .clauses) rs) (r .clauses)) ∙ ap (endsOf 0) (sym (map-snoc (λ (r : Rule). r .clauses) rs r));
+          fill-more ends n e _ (h .ends-at) (omega arith) (omega arith) ∙ ap (λ x. endsOf 0 (map (λ (r : Rule). r .clauses) rs) ++ (x ∷ [])) z
+          ∙ sym (ends-snoc 0 (map (λ (r : Rule). r .clauses) rs) (r .clauses)) ∙ ap (endsOf 0) (sym (map-snoc (λ (r : Rule). r .clauses) rs r));
       count = one-more n rs r (omega arith) (h .count);
     }

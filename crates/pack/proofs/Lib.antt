@@ -4,3 +4,4 @@ pub mod Tally
 pub mod Levels
 pub mod Holds
 pub mod Moves
+pub mod Sims

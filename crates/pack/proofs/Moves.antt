@@ -66,7 +66,7 @@ upper-row t low =
     rw (capped-exact t (omega arith))))
 
 -- the number of a token's row
-abbrev rowOn : State → Counts → Current → Arrays → Text → ℕ
+abbrev pub rowOn : State → Counts → Current → Arrays → Text → ℕ
 rowOn s c o a t =
     let k = phaseNumber (phaseOf s) in
     let key = keyAfter k t (o .key) in
@@ -211,12 +211,16 @@ module _ (d : List RuleTree) (c : Counts) (o : Current) (a : Arrays) (at p : ℕ
       let n = value-exact t (q .0) in
       choice (Then 7 t) (same t semi) (λ _. tt)
       (λ _. choice (λ (s : State). Then 7 t (here s)) (isNumber t)
-      (λ _.
-      (record {
-        base = add-value d f vs t c o a at (capped t) p (h .0 .base) n (omega (arith, h .3)) m (ltb-true (length vs) maxRanges (q .1));
-        keyed = keyed-on (h .0 .keyed) refl;
-        named = h .0 .named;
-      }, h .1, h .2, n))
+      (λ _. (
+        record {
+          base = add-value d f vs t c o a at (capped t) p (h .0 .base) n (omega (arith, h .3)) m (ltb-true (length vs) maxRanges (q .1));
+          keyed = keyed-on (h .0 .keyed) refl;
+          named = h .0 .named;
+        },
+        h .1,
+        h .2,
+        n,
+      ))
       (λ _. tt))
   move (HasValue f g vs x) t h e =
       tested (same t dots) (λ q. at-literal (Next (HasValue f g vs x)) t dots q (front-on (h .0) refl, h .1, h .2, h .3))
@@ -233,12 +237,15 @@ module _ (d : List RuleTree) (c : Counts) (o : Current) (a : Arrays) (at p : ℕ
       let q = fits-upper (ltb maxValue (value t)) (ltb (value t) (value x)) e in
       choice (Then 9 t) (same t semi) (λ _. tt)
       (λ _. choice (λ (s : State). Then 9 t (here s)) (isNumber t)
-      (λ _.
-      (record {
-        base = add-upper d f vs x t c o a at (capped t) p (h .0 .base) (value-exact t q) l m;
-        keyed = keyed-on (h .0 .keyed) refl;
-        named = h .0 .named;
-      }, h .1, h .2))
+      (λ _. (
+        record {
+          base = add-upper d f vs x t c o a at (capped t) p (h .0 .base) (value-exact t q) l m;
+          keyed = keyed-on (h .0 .keyed) refl;
+          named = h .0 .named;
+        },
+        h .1,
+        h .2,
+      ))
       (λ _. tt))
   move (HasUpper f g vs x y) t h e =
       tested (same t comma) (λ q. at-literal (Next (HasUpper f g vs x y)) t comma q (by-comma f g vs (Span x y) (h .0) (h .1) (h .2)))

@@ -376,8 +376,32 @@ fn read_short(s: &[u8]) -> PackReading
     let mut keyword = [0u8; 6];
     let mut clauses = [0usize; 6];
     let n = s.len();
-    let w = read_tokens(s, &mut low, &mut high, &mut operand, &mut modulus, &mut negated, &mut ranges, &mut relations, &mut keyword, &mut clauses);
-    let e = take_token(b";", n, w, &mut low, &mut high, &mut operand, &mut modulus, &mut negated, &mut ranges, &mut relations, &mut keyword, &mut clauses);
+    let w = read_tokens(
+        s,
+        &mut low,
+        &mut high,
+        &mut operand,
+        &mut modulus,
+        &mut negated,
+        &mut ranges,
+        &mut relations,
+        &mut keyword,
+        &mut clauses,
+    );
+    let e = take_token(
+        b";",
+        n,
+        w,
+        &mut low,
+        &mut high,
+        &mut operand,
+        &mut modulus,
+        &mut negated,
+        &mut ranges,
+        &mut relations,
+        &mut keyword,
+        &mut clauses,
+    );
     let c = e.counts;
     let v = judge(e);
     let count = count_of(v, c.rules);
