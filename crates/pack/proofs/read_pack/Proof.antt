@@ -8,13 +8,13 @@ empty-requires : tie.Need-empty-requires
 empty-requires c κs = search needs
 
 returns : tie.Need-returns
-returns c = too-long (c .before .before .before .args .s .now) _ (c .before .if1 .taken) (c .empty .ensures)
+returns c = too-long (c .before .before .before .args .s .now) (c .empty .result) (c .before .if1 .taken) (c .empty .ensures)
 
 read-short-requires : tie.Need-read-short-requires
 read-short-requires c κs = search needs
 
 returns-2 : tie.Need-returns-2
-returns-2 c = short _ (c .before .before .before .args .s .now) (c .read-short .ensures) (c .before .if1 .left)
+returns-2 c = short (c .read-short .result) (c .before .before .before .args .s .now) (c .read-short .ensures) (c .before .if1 .left)
 
 pub read-pack-spec : {M : Type 1} → statement M
 read-pack-spec = tie.close (tie.spec empty-requires returns read-short-requires returns-2)
