@@ -1,0 +1,394 @@
+-- Rows 20 to 26 of document 01's table: each is given exactly when its row says, with its figure.
+use mathlib.Core.Path.{_≡_, refl, sym, ap, _∙_}
+use mathlib.Core.Bool.{Bool, true, false}
+use mathlib.Core.List.{List, [], _∷_, _++_, map}
+use mathlib.Core.Logic.{_⊎_, inl, inr}
+use Prim.Native.Nat.{ℕ, _≤_, _<_}
+use native.Mathlib.Omega.{arith}
+use lib.Dec.{eqb, ltb}
+use lib.ListN.{length, getD}
+use borrow.Author.Tests.{ltb-true, ltb-false, lt-ltb, le-ltb, eqb-true, eqb-false, eq-eqb, ne-eqb}
+use Rattle.decimal.specs.Choice.{if_then_else_, both}
+use Rattle.decimal.specs.Digits.{value}
+use Rattle.decimal.proofs.Choices.{choice, tested, not-both}
+use Rattle.answer.specs.Table.{packRow, figuresOf}
+use Rattle.answer.specs.declared.PackRow.{PackRow}
+use Rattle.answer.specs.declared.PackRow.the-variants.{NotAPack, ValueTooLarge, UnlistedModulus, RangeReversed, BadKeyword, TooMany}
+use Rattle.answer.specs.declared.Refusal.the-variants.{PackTooLong}
+use Rattle.rules.specs.Syntax.{Rule}
+use Rattle.token.specs.Spelling.{among}
+use Rattle.token.proofs.Spellings.{both-in}
+use Rattle.token.specs.Token.{Token, tokens}
+use Rattle.grammar.specs.Limits.{maxBytes, maxValue, maxClauses, maxRelations, maxRanges, isModulus}
+use Rattle.grammar.specs.Grammar.{Text, RuleTree, PackTree, semi, each, ofRule, ofPack, rightPack}
+use Rattle.grammar.specs.Grammar.PackTree.{Parted}
+use Rattle.grammar.specs.RuleOf.{ruleOf}
+use Rattle.grammar.specs.Steps.{State, Read, ends}
+use Rattle.grammar.specs.Steps.State.{WantsName, WantsColon, WantsNothing, WantsOperand, HasOperand, WantsModulus, HasModulus, WantsValue, HasValue, WantsUpper, HasUpper, Dead}
+use Rattle.grammar.specs.Steps.Read.{Whole, Cut}
+use Rattle.grammar.specs.Reader.{isDead, segments, rulesFrom, keywords, Parsed, trouble, Fault, orElse, faultAt, rowOf, PackAnswer, refusedAt, judge, readPack}
+use Rattle.grammar.specs.Reader.Parsed.{Trees, Bad}
+use Rattle.grammar.specs.Reader.Fault.{None, At}
+use Rattle.grammar.specs.Reader.PackAnswer.{Rules, Refused}
+use Rattle.grammar.proofs.Laws.{no-way}
+use Rattle.grammar.proofs.Places.{texts, or-0, or-1}
+use Rattle.grammar.proofs.Viable.{Far, onward, outset, far, halt, last, alive-before, viable, never, not-ended, whole-alive, Begins, WellFormed, Culprit, Unfinished, There, AtEnd, halts, been, behind}
+use Rattle.grammar.proofs.Exact.{ended, rulesOf, complete-pack}
+use Rattle.grammar.proofs.Sound.{told-rule}
+use Rattle.grammar.proofs.Whole.{faultOn, faults, isName, names, tokens-whole, halt-whole, read-whole}
+
+-- two directions
+infix 1 _iff_
+abbrev pub _iff_ : Type 0 → Type 0 → Type 0
+A iff B = (A → B) × (B → A)
+
+-- the answer to a pack that is short enough
+abbrev told : List Token → ℕ → PackAnswer
+told ts end = judge (halt outset ts end) (faults outset ts)
+
+-- ---- 20: "pack over 4,096 bytes"
+
+judged-not-long : (p : Parsed) (f : Fault) → judge p f ≡ Refused PackTooLong → ⊥
+judged-not-long (Bad a) f e = let z : _≡_ {A = ℕ} 0 1 = cc in omega arith
+judged-not-long (Trees rs) None e = let z : _≡_ {A = ℕ} 0 1 = cc in omega arith
+judged-not-long (Trees rs) (At n a) e = let z : _≡_ {A = ℕ} 0 1 = cc in omega arith
+
+pub row-20 : (s : Text) → (readPack s ≡ Refused PackTooLong) iff (maxBytes < length s)
+row-20 s = (to, λ h. rw (lt-ltb maxBytes (length s) h))
+  where
+    to : readPack s ≡ Refused PackTooLong → maxBytes < length s
+    to e =
+        tested (ltb maxBytes (length s)) (λ k. ltb-true maxBytes (length s) k)
+        (λ k. absurd (judged-not-long (halt outset (tokens 0 s) (length s)) (faults outset (tokens 0 s)) (rw (read-whole s, k) at e)))
+
+long-other : {A : Type 0} (s : Text) (a : PackAnswer) → readPack s ≡ a → (Refused PackTooLong ≡ a → ⊥)
+    → (length s ≤ maxBytes → told (tokens 0 s) (length s) ≡ a → A) → A
+long-other s a e unlike f =
+    tested (ltb maxBytes (length s))
+    (λ k. absurd (unlike (rw (read-whole s, k) at e)))
+    (λ k. f (ltb-false maxBytes (length s) k) (rw (read-whole s, k) at e))
+
+short-told : (s : Text) → length s ≤ maxBytes → readPack s ≡ told (tokens 0 s) (length s)
+short-told s h = rw (read-whole s, le-ltb maxBytes (length s) h)
+
+-- ---- 21: "not the pack grammar": "start of the first token or stray byte no well-formed pack could have there, else the length"
+
+whole-well-formed : (us : List Text) (r : RuleTree) → ends (far outset us .state) ≡ Whole r → WellFormed us
+whole-well-formed us r e =
+    let f = far outset us in
+    let b = been outset [] us (whole-alive (f .state) r e) ([], refl, refl, refl) in
+    let w = told-rule (f .state) (b .0) r e (b .2) in
+    (Parted (f .rules) r, both-in (b .3) (w .1), b .1 ∙ ap (λ (l : List Text). each ofRule semi (f .rules) ++ l) (w .0))
+
+-- where a reading stops, and back
+stops : (ts : List Token) (end a : ℕ) → halt outset ts end ≡ Bad a → Culprit ts a ⊎ Unfinished ts end a
+stops ts end a e = go (halts outset ts end a refl e)
+  where
+    go : There outset ts a ⊎ AtEnd outset ts end a → Culprit ts a ⊎ Unfinished ts end a
+    go (inl w) =
+        inl (record {
+          before = w .before;
+          token = w .token;
+          after = w .after;
+          is = w .is;
+          place = w .place;
+          some = viable (texts (w .before)) (w .alive);
+          none = never (texts (w .before) ++ (w .token .text ∷ [])) (w .dead);
+        })
+    go (inr w) = inr (record { place = w .place; some = viable (texts ts) (w .alive); none = not-ended (texts ts) (w .cut) })
+
+halts-there : (p : Far) (before : List Token) (t : Token) (after : List Token) (end : ℕ) → isDead (far p (texts before) .state) ≡ false
+    → isDead (far p (texts before ++ (t .text ∷ [])) .state) ≡ true → halt p (before ++ (t ∷ after)) end ≡ Bad (t .at)
+halts-there p [] t after end v d = rw d
+halts-there p (b ∷ before) t after end v d =
+    rw (alive-before (onward p (b .text)) (texts before) v) (halts-there (onward p (b .text)) before t after end v d)
+
+halts-at-end : (p : Far) (ts : List Token) (end : ℕ) → isDead (far p (texts ts) .state) ≡ false → ends (far p (texts ts) .state) ≡ Cut
+    → halt p ts end ≡ Bad end
+halts-at-end p [] end v c = rw c
+halts-at-end p (t ∷ ts) end v c = rw (alive-before (onward p (t .text)) (texts ts) v) (halts-at-end (onward p (t .text)) ts end v c)
+
+begins-alive : (us : List Text) → Begins us → isDead (far outset us .state) ≡ false
+begins-alive us b = tested (isDead (far outset us .state)) (λ k. absurd (never us k b)) (λ k. k)
+
+stopped : (ts : List Token) (end a : ℕ) → Culprit ts a ⊎ Unfinished ts end a → halt outset ts end ≡ Bad a
+stopped ts end a (inl w) =
+    let us = texts (w .before) ++ (w .token .text ∷ []) in
+    let d = tested {A = isDead (far outset us .state) ≡ true} (isDead (far outset us .state)) (λ k. k) (λ k. absurd (w .none (viable us k))) in
+    rw (w .is) (halts-there outset (w .before) (w .token) (w .after) end (begins-alive (texts (w .before)) (w .some)) d ∙ ap Bad (w .place))
+stopped ts end a (inr w) =
+    halts-at-end outset ts end (begins-alive (texts ts) (w .some)) (go (ends (far outset (texts ts) .state)) refl) ∙ ap Bad (sym (w .place))
+  where
+    go : (x : Read) → ends (far outset (texts ts) .state) ≡ x → x ≡ Cut
+    go (Whole r) e = absurd (w .none (whole-well-formed (texts ts) r e))
+    go Cut e = refl
+
+-- 22 to 26 have rows of their own
+row-above : (n : ℕ) → 22 ≤ packRow (rowOf n)
+row-above n =
+    choice P (eqb n 22) (λ _. omega arith)
+    (λ _. choice P (eqb n 23) (λ _. omega arith)
+    (λ _. choice P (eqb n 24) (λ _. omega arith) (λ _. choice P (eqb n 25) (λ _. omega arith) (λ _. omega arith))))
+  where
+    P : PackRow → Type 0
+    P r = 22 ≤ packRow r
+
+rows-apart : (n a b : ℕ) → refusedAt (rowOf n) a ≡ refusedAt NotAPack b → ⊥
+rows-apart n a b e =
+    let k : rowOf n ≡ NotAPack = cc in
+    let z : packRow (rowOf n) ≡ 21 = ap packRow k in
+    omega (arith, row-above n)
+
+long-not : (row : PackRow) (a : ℕ) → Refused PackTooLong ≡ refusedAt row a → ⊥
+long-not row a e = let z : _≡_ {A = ℕ} 0 1 = cc in omega arith
+
+abbrev placeIn : PackAnswer → ℕ
+placeIn (Rules rs) = 0
+placeIn (Refused r) = getD (figuresOf r) 0 0
+
+told-21 : (p : Parsed) (f : Fault) (a : ℕ) → judge p f ≡ refusedAt NotAPack a → p ≡ Bad a
+told-21 (Bad b) f a e = ap Bad (ap placeIn e)
+told-21 (Trees rs) None a e = absurd (let z : _≡_ {A = ℕ} 0 1 = cc in omega arith)
+told-21 (Trees rs) (At n b) a e = absurd (rows-apart n b a e)
+
+pub row-21 : (s : Text) (a : ℕ)
+    → (readPack s ≡ refusedAt NotAPack a) iff ((length s ≤ maxBytes) × (Culprit (tokens 0 s) a ⊎ Unfinished (tokens 0 s) (length s) a))
+row-21 s a = (to, from)
+  where
+    to : readPack s ≡ refusedAt NotAPack a → (length s ≤ maxBytes) × (Culprit (tokens 0 s) a ⊎ Unfinished (tokens 0 s) (length s) a)
+    to e =
+        long-other s (refusedAt NotAPack a) e (long-not NotAPack a)
+        (λ h k. (h, stops (tokens 0 s) (length s) a (told-21 (halt outset (tokens 0 s) (length s)) (faults outset (tokens 0 s)) a k)))
+
+    from : (length s ≤ maxBytes) × (Culprit (tokens 0 s) a ⊎ Unfinished (tokens 0 s) (length s) a) → readPack s ≡ refusedAt NotAPack a
+    from w = short-told s (w .0) ∙ ap (λ (p : Parsed). judge p (faults outset (tokens 0 s))) (stopped (tokens 0 s) (length s) a (w .1))
+
+-- ---- the pack grammar
+
+texts-append : (a b : List Token) → texts (a ++ b) ≡ texts a ++ texts b
+texts-append [] b = refl
+texts-append (t ∷ a) b = ap (λ (l : List Text). t .text ∷ l) (texts-append a b)
+
+append-cons : (a : List Text) (t : Text) (b : List Text) → (a ++ (t ∷ [])) ++ b ≡ a ++ (t ∷ b)
+append-cons [] t b = refl
+append-cons (x ∷ a) t b = ap (λ (l : List Text). x ∷ l) (append-cons a t b)
+
+trees-formed : (ts : List Token) (end : ℕ) (rs : List RuleTree) → halt outset ts end ≡ Trees rs → WellFormed (texts ts)
+trees-formed ts end rs e = let n = ended outset ts end rs e in whole-well-formed (texts ts) (n .0) (n .1)
+
+formed-trees : (ts : List Token) (end : ℕ) → WellFormed (texts ts) → (rs : List RuleTree) × (halt outset ts end ≡ Trees rs)
+formed-trees ts end w = go (halt outset ts end) refl
+  where
+    no : {a : ℕ} → Culprit ts a ⊎ Unfinished ts end a → ⊥
+    no (inl c) =
+        let us = texts (c .before) in
+        let e : texts ts ≡ (us ++ (c .token .text ∷ [])) ++ texts (c .after) =
+        ap texts (c .is) ∙ texts-append (c .before) (c .token ∷ c .after) ∙ sym (append-cons us (c .token .text) (texts (c .after))) in
+        c .none (texts (c .after), (w .0, w .1, sym e ∙ w .2))
+    no (inr u) = u .none w
+
+    go : (p : Parsed) → halt outset ts end ≡ p → (rs : List RuleTree) × (halt outset ts end ≡ Trees rs)
+    go (Trees rs) e = (rs, e)
+    go (Bad a) e = absurd (no (stops ts end a e))
+
+-- ---- 22 to 26: the first token with a fault
+
+pub record First (p : Far) (ts : List Token) (n a : ℕ) : Type 0 where
+  pub before : List Token
+  pub token : Token
+  pub after : List Token
+  pub is : ts ≡ before ++ (token ∷ after)
+  pub place : token .at ≡ a
+  pub clean : faults p before ≡ None
+  pub here : faultOn (far p (texts before)) (token .text) ≡ n
+
+pub fault-none : (n a : ℕ) → faultAt n a ≡ None → n ≡ 0
+fault-none n a e = go (eqb n 0) refl e
+  where
+    go : (b : Bool) → eqb n 0 ≡ b → (if b then None else At n a) ≡ None → n ≡ 0
+    go true k e = eqb-true n 0 k
+    go false k e = absurd (let z : _≡_ {A = ℕ} 0 1 = cc in omega arith)
+
+none-found : {A : Type 0} (n a : ℕ) → None ≡ At n a → A
+none-found n a e = absurd (let z : _≡_ {A = ℕ} 0 1 = cc in omega arith)
+
+first-of : (p : Far) (ts : List Token) (n a : ℕ) → faults p ts ≡ At n a → First p ts n a
+first-of p [] n a e = none-found n a e
+first-of p (t ∷ ts) n a e = go (eqb (faultOn p (t .text)) 0) refl e (first-of (onward p (t .text)) ts n a)
+  where
+    go : (b : Bool) → eqb (faultOn p (t .text)) 0 ≡ b
+        → orElse (if b then None else At (faultOn p (t .text)) (t .at)) (faults (onward p (t .text)) ts) ≡ At n a
+        → (faults (onward p (t .text)) ts ≡ At n a → First (onward p (t .text)) ts n a) → First p (t ∷ ts) n a
+    go true k e f =
+        let w = f e in
+        record {
+          before = t ∷ w .before;
+          token = w .token;
+          after = w .after;
+          is = ap (λ (l : List Token). t ∷ l) (w .is);
+          place = w .place;
+          clean = rw k (w .clean);
+          here = w .here;
+        }
+    go false k e f = record { before = []; token = t; after = ts; is = refl; place = cc; clean = refl; here = cc }
+
+found : (p : Far) (before : List Token) (t : Token) (after : List Token) (n : ℕ) → (n ≡ 0 → ⊥) → faults p before ≡ None
+    → faultOn (far p (texts before)) (t .text) ≡ n → faults p (before ++ (t ∷ after)) ≡ At n (t .at)
+found p [] t after n z c h =
+    let k : eqb (faultOn p (t .text)) 0 ≡ false = ne-eqb (faultOn p (t .text)) 0 (λ e. z (sym h ∙ e)) in
+    rw k (ap (λ (m : ℕ). At m (t .at)) h)
+found p (b ∷ before) t after n z c h =
+    let m = faultAt (faultOn p (b .text)) (b .at) in
+    let k = or-0 m (faults (onward p (b .text)) before) c in
+    ap (λ (f : Fault). orElse f (faults (onward p (b .text)) (before ++ (t ∷ after)))) k
+    ∙ found (onward p (b .text)) before t after n z (or-1 m (faults (onward p (b .text)) before) c) h
+
+-- a fault's number is 22 to 26
+abbrev InTable : ℕ → Type 0
+InTable n = (n ≡ 0 → ⊥) → (22 ≤ n) × (n ≤ 26)
+
+in-table : (n : ℕ) → 22 ≤ n → n ≤ 26 → InTable n
+in-table n a b z = (a, b)
+
+zero-table : InTable 0
+zero-table z = absurd (z refl)
+
+trouble-table : (s : State) (t : Text) → InTable (trouble s t)
+trouble-table WantsName t = choice InTable (among t keywords) (λ _. zero-table) (λ _. in-table 25 (omega arith) (omega arith))
+trouble-table (WantsColon k) t = zero-table
+trouble-table (WantsNothing k) t = zero-table
+trouble-table (WantsOperand f) t =
+    choice InTable (ltb (length (f .clauses)) maxClauses)
+    (λ _. choice InTable (ltb (length (f .relations)) maxRelations) (λ _. zero-table) (λ _. in-table 26 (omega arith) (omega arith)))
+    (λ _. in-table 26 (omega arith) (omega arith))
+trouble-table (HasOperand f o) t = zero-table
+trouble-table (WantsModulus f o) t = choice InTable (isModulus (value t)) (λ _. zero-table) (λ _. in-table 23 (omega arith) (omega arith))
+trouble-table (HasModulus f o m) t = zero-table
+trouble-table (WantsValue f h vs) t =
+    choice InTable (ltb maxValue (value t)) (λ _. in-table 22 (omega arith) (omega arith))
+    (λ _. choice InTable (ltb (length vs) maxRanges) (λ _. zero-table) (λ _. in-table 26 (omega arith) (omega arith)))
+trouble-table (HasValue f h vs a) t = zero-table
+trouble-table (WantsUpper f h vs a) t =
+    choice InTable (ltb maxValue (value t)) (λ _. in-table 22 (omega arith) (omega arith))
+    (λ _. choice InTable (ltb (value t) (value a)) (λ _. in-table 24 (omega arith) (omega arith)) (λ _. zero-table))
+trouble-table (HasUpper f h vs a b) t = zero-table
+trouble-table Dead t = zero-table
+
+fault-table : (p : Far) (t : Text) → InTable (faultOn p t)
+fault-table p t =
+    choice InTable (both (isName (p .state)) (among t (names (p .rules)))) (λ _. in-table 25 (omega arith) (omega arith))
+    (λ _. trouble-table (p .state) t)
+
+row-number : (n : ℕ) → 22 ≤ n → n ≤ 26 → packRow (rowOf n) ≡ n
+row-number n a b =
+    choice P (eqb n 22) (λ k. sym (eqb-true n 22 k))
+    (λ p. choice P (eqb n 23) (λ k. sym (eqb-true n 23 k))
+    (λ q. choice P (eqb n 24) (λ k. sym (eqb-true n 24 k))
+    (λ r. choice P (eqb n 25) (λ k. sym (eqb-true n 25 k))
+    (λ u. last-one (eqb-false n 22 p) (eqb-false n 23 q) (eqb-false n 24 r) (eqb-false n 25 u)))))
+  where
+    P : PackRow → Type 0
+    P r = packRow r ≡ n
+
+    last-one : (n ≡ 22 → ⊥) → (n ≡ 23 → ⊥) → (n ≡ 24 → ⊥) → (n ≡ 25 → ⊥) → 26 ≡ n
+    last-one p q r u = omega arith
+
+-- a fault that is found is not 0
+found-fault : (p : Far) (ts : List Token) (n a : ℕ) → faults p ts ≡ At n a → n ≡ 0 → ⊥
+found-fault p [] n a e z = none-found n a e
+found-fault p (t ∷ ts) n a e z = go (eqb (faultOn p (t .text)) 0) refl e (λ k. found-fault (onward p (t .text)) ts n a k z)
+  where
+    go : (b : Bool) → eqb (faultOn p (t .text)) 0 ≡ b
+        → orElse (if b then None else At (faultOn p (t .text)) (t .at)) (faults (onward p (t .text)) ts) ≡ At n a
+        → (faults (onward p (t .text)) ts ≡ At n a → ⊥) → ⊥
+    go true k e f = f e
+    go false k e f =
+        let h : faultOn p (t .text) ≡ n = cc in
+        eqb-false (faultOn p (t .text)) 0 k (h ∙ z)
+
+told-fault : (p : Parsed) (f : Fault) (n a : ℕ) → judge p f ≡ refusedAt (rowOf n) a
+    → (rs : List RuleTree) × (m : ℕ) × (p ≡ Trees rs) × (f ≡ At m a) × (rowOf m ≡ rowOf n)
+told-fault (Bad b) f n a e = absurd (rows-apart n a b (sym e))
+told-fault (Trees rs) None n a e = absurd (let z : _≡_ {A = ℕ} 0 1 = cc in omega arith)
+told-fault (Trees rs) (At m b) n a e = (rs, m, refl, ap (At m) (ap placeIn e), cc)
+
+-- "22 / 23 / 24 relation value above 999,999 / modulus not listed / a above b", "25 keyword unknown or repeated", "26 clause, relation or range
+-- too many": in a well-formed pack, at the first token that falls under one of them, whose number is the lowest there
+pub rows-22-26 : (s : Text) (n a : ℕ) → 22 ≤ n → n ≤ 26
+    → (readPack s ≡ refusedAt (rowOf n) a) iff ((length s ≤ maxBytes) × WellFormed (texts (tokens 0 s)) × First outset (tokens 0 s) n a)
+rows-22-26 s n a lo hi = (to, from)
+  where
+    ts : List Token
+    ts = tokens 0 s
+
+    same-number : (m : ℕ) → rowOf m ≡ rowOf n → faults outset (tokens 0 s) ≡ At m a → m ≡ n
+    same-number m k e =
+        let w = first-of outset (tokens 0 s) m a e in
+        let r = fault-table (far outset (texts (w .before))) (w .token .text) (λ z. found-fault outset (tokens 0 s) m a e (sym (w .here) ∙ z)) in
+        let x : (22 ≤ m) × (m ≤ 26) = rw (w .here) at r in
+        sym (row-number m (x .0) (x .1)) ∙ ap packRow k ∙ row-number n lo hi
+
+    to : readPack s ≡ refusedAt (rowOf n) a → (length s ≤ maxBytes) × WellFormed (texts (tokens 0 s)) × First outset (tokens 0 s) n a
+    to e =
+        long-other s (refusedAt (rowOf n) a) e (long-not (rowOf n) a)
+        (λ h k.
+        let w = told-fault (halt outset (tokens 0 s) (length s)) (faults outset (tokens 0 s)) n a k in
+        let m = same-number (w .1) (w .4) (w .3) in
+        (h, trees-formed (tokens 0 s) (length s) (w .0) (w .2), first-of outset (tokens 0 s) n a (w .3 ∙ ap (λ (j : ℕ). At j a) m)))
+
+    from : (length s ≤ maxBytes) × WellFormed (texts (tokens 0 s)) × First outset (tokens 0 s) n a → readPack s ≡ refusedAt (rowOf n) a
+    from w =
+        let r = formed-trees (tokens 0 s) (length s) (w .1) in
+        let f = w .2 in
+        let z : n ≡ 0 → ⊥ = λ k. omega arith in
+        let e : faults outset (tokens 0 s) ≡ At n a =
+        ap (faults outset) (f .is) ∙ found outset (f .before) (f .token) (f .after) n z (f .clean) (f .here) ∙ ap (At n) (f .place) in
+        short-told s (w .0) ∙ rw (r .1, e)
+
+-- ---- rules
+
+-- the tree of a pack that is read: right, of the pack's tokens, and without a fault; the rules are those it stands for
+pub record Tree (s : Text) (rs : List Rule) : Type 0 where
+  pub short : length s ≤ maxBytes
+  pub tree : PackTree
+  pub right : rightPack tree ≡ true
+  pub tokens-are : texts (tokens 0 s) ≡ ofPack tree
+  pub clean : faults outset (tokens 0 s) ≡ None
+  pub rules : rs ≡ map ruleOf (rulesOf tree)
+
+told-read : (p : Parsed) (f : Fault) (rs : List Rule) → judge p f ≡ Rules rs → (qs : List RuleTree) × (p ≡ Trees qs) × (f ≡ None) × (rs ≡ map ruleOf qs)
+told-read (Bad a) f rs e = absurd (let z : _≡_ {A = ℕ} 0 1 = cc in omega arith)
+told-read (Trees qs) None rs e = (qs, refl, refl, cc)
+told-read (Trees qs) (At n a) rs e = absurd (let z : _≡_ {A = ℕ} 0 1 = cc in omega arith)
+
+long-rules : (rs : List Rule) → Refused PackTooLong ≡ Rules rs → ⊥
+long-rules rs e = let z : _≡_ {A = ℕ} 0 1 = cc in omega arith
+
+-- SOUND and COMPLETE, on bytes: a pack is read exactly where it is short enough and its tokens are those of a right tree without a fault
+pub read-rules : (s : Text) (rs : List Rule) → (readPack s ≡ Rules rs) iff (Tree s rs)
+read-rules s rs = (to, from)
+  where
+    to : readPack s ≡ Rules rs → Tree s rs
+    to e =
+        long-other s (Rules rs) e (long-rules rs)
+        (λ h k.
+        let w = told-read (halt outset (tokens 0 s) (length s)) (faults outset (tokens 0 s)) rs k in
+        let n = ended outset (tokens 0 s) (length s) (w .0) (w .1) in
+        let us = texts (tokens 0 s) in
+        let f = far outset us in
+        let b = been outset [] us (whole-alive (f .state) (n .0) (n .1)) ([], refl, refl, refl) in
+        let v = told-rule (f .state) (b .0) (n .0) (n .1) (b .2) in
+        record {
+          short = h;
+          tree = Parted (f .rules) (n .0);
+          right = both-in (b .3) (v .1);
+          tokens-are = b .1 ∙ ap (λ (l : List Text). each ofRule semi (f .rules) ++ l) (v .0);
+          clean = w .2;
+          rules = w .3 ∙ ap (map ruleOf) (n .2);
+        })
+
+    from : Tree s rs → readPack s ≡ Rules rs
+    from w =
+        let c = complete-pack s (w .tree) (w .right) (ap texts (sym (tokens-whole s)) ∙ w .tokens-are) in
+        let h : halt outset (tokens 0 s) (length s) ≡ Trees (rulesOf (w .tree)) = halt-whole s ∙ ap (behind []) c in
+        short-told s (w .short) ∙ rw (h, w .clean) (ap Rules (sym (w .rules)))

@@ -1,0 +1,7 @@
+pub mod Boards
+pub mod Flats
+pub mod Tally
+pub mod Levels
+pub mod Holds
+pub mod Moves
+pub mod Sims

@@ -1,0 +1,153 @@
+-- The arrays of a pack while it is read, and how a token changes them; the answer at the pack's end. A relation, a clause and a rule are stored when
+-- the token behind them closes them.
+use mathlib.Core.Path.{_≡_}
+use mathlib.Core.Bool.{Bool, true, false}
+use mathlib.Core.List.{List, [], _∷_}
+use Prim.Native.Nat.{ℕ, _-_}
+use lib.Dec.{eqb}
+use lib.ListN.{length, set}
+use Rattle.decimal.specs.Choice.{if_then_else_}
+use Rattle.answer.specs.declared.PackRow.the-variants.{NotAPack}
+use Rattle.answer.specs.declared.Refusal.the-variants.{Pack as OfPack}
+use Rattle.rules.specs.declared.Pack.{Pack}
+use Rattle.token.specs.Token.{Token, tokens}
+use Rattle.grammar.specs.Grammar.{Text, semi}
+use Rattle.grammar.specs.Reader.{rowOf}
+use Rattle.phase.specs.Next.{phaseNumber}
+use Rattle.phase.specs.declared.Phase.the-variants.{Name}
+use Rattle.walk.specs.Steps.{capped, closesAt, countsAfter, walkAfter}
+use Rattle.walk.specs.declared.Counts.{Counts}
+use Rattle.walk.specs.declared.Closes.{Closes}
+use Rattle.walk.specs.declared.Current.{Current}
+use Rattle.walk.specs.declared.Walk.{Walk}
+use Rattle.pack.specs.declared.PackReading.{PackReading}
+use Rattle.pack.specs.declared.Verdict.{Verdict}
+use Rattle.pack.specs.declared.Verdict.the-variants.{Good, Refused}
+
+-- ---- the arrays
+
+pub record Arrays : Type 0 where
+  pub low : List ℕ
+  pub high : List ℕ
+  pub operand : List ℕ
+  pub modulus : List ℕ
+  pub negated : List Bool
+  pub ranges : List ℕ
+  pub relations : List ℕ
+  pub keyword : List ℕ
+  pub clauses : List ℕ
+
+abbrev pub arraysOf : List ℕ → List ℕ → List ℕ → List ℕ → List Bool → List ℕ → List ℕ → List ℕ → List ℕ → Arrays
+arraysOf low high operand modulus negated ranges relations keyword clauses =
+    record {
+      low = low;
+      high = high;
+      operand = operand;
+      modulus = modulus;
+      negated = negated;
+      ranges = ranges;
+      relations = relations;
+      keyword = keyword;
+      clauses = clauses;
+    }
+
+abbrev pub setIf : {A : Type 0} → Bool → List A → ℕ → A → List A
+setIf b a n v = if b then set a n v else a
+
+-- in a phase, for a token that closes so much and has this value; c and d: the counts before and behind the token
+abbrev pub filled : ℕ → ℕ → Closes → Counts → Counts → Current → Arrays → Arrays
+filled k v x c d o a =
+    record {
+      low = setIf (eqb k 7) (a .low) (c .ranges) v;
+      high = setIf (eqb k 9) (setIf (eqb k 7) (a .high) (c .ranges) v) (c .ranges - 1) v;
+      operand = setIf (x .relation) (a .operand) (c .relations) (o .operand);
+      modulus = setIf (x .relation) (a .modulus) (c .relations) (o .modulus);
+      negated = setIf (x .relation) (a .negated) (c .relations) (o .negated);
+      ranges = setIf (x .relation) (a .ranges) (c .relations) (c .ranges);
+      relations = setIf (x .clause) (a .relations) (c .clauses) (d .relations);
+      keyword = setIf (x .rule) (a .keyword) (c .rules) (o .key);
+      clauses = setIf (x .rule) (a .clauses) (c .rules) (d .clauses);
+    }
+
+pub record Board : Type 0 where
+  pub walk : Walk
+  pub arrays : Arrays
+
+abbrev pub boardOf : Walk → List ℕ → List ℕ → List ℕ → List ℕ → List Bool → List ℕ → List ℕ → List ℕ → List ℕ → Board
+boardOf w low high operand modulus negated ranges relations keyword clauses =
+    record { walk = w; arrays = arraysOf low high operand modulus negated ranges relations keyword clauses }
+
+abbrev pub startWalk : Walk
+startWalk =
+    record {
+      phase = Name;
+      counts = record { ranges = 0; relations = 0; clauses = 0; rules = 0; values = 0; joined = 0; parted = 0 };
+      current = record { key = 0; operand = 0; modulus = 0; negated = false; low = 0; other = false };
+      mark = record { stop = 0; row = 0; place = 0 };
+    }
+
+abbrev pub boardAfter : Board → Text → ℕ → Board
+boardAfter b t at =
+    let w = b .walk in
+    let k = phaseNumber (w .phase) in
+    record {
+      walk = walkAfter t at (b .arrays .keyword) w;
+      arrays = filled k (capped t) (closesAt k t) (w .counts) (countsAfter (w .counts) (eqb k 7) (closesAt k t)) (w .current) (b .arrays);
+    }
+
+abbrev pub boards : Board → List Token → Board
+boards b [] = b
+boards b (t ∷ ts) = boards (boardAfter b (t .text) (t .at)) ts
+
+-- ---- at the pack's end, behind a last `;`: a rule has been closed there, or nothing could follow
+
+abbrev pub faultVerdict : ℕ → ℕ → Verdict
+faultVerdict row place = if eqb row 0 then Good else Refused (OfPack (rowOf row) (record { 0 = place }))
+
+abbrev pub judged : Walk → Verdict
+judged w =
+    if eqb (phaseNumber (w .phase)) 0 then faultVerdict (w .mark .row) (w .mark .place) else
+    Refused (OfPack NotAPack (record { 0 = w .mark .stop }))
+
+abbrev pub counted : Verdict → ℕ → ℕ
+counted Good n = n
+counted (Refused r) n = 0
+
+-- ---- the whole pack
+
+pub record Sized (a : Arrays) : Type 0 where
+  pub low : length (a .low) ≡ 2048
+  pub high : length (a .high) ≡ 2048
+  pub operand : length (a .operand) ≡ 320
+  pub modulus : length (a .modulus) ≡ 320
+  pub negated : length (a .negated) ≡ 320
+  pub ranges : length (a .ranges) ≡ 320
+  pub relations : length (a .relations) ≡ 40
+  pub keyword : length (a .keyword) ≡ 6
+  pub clauses : length (a .clauses) ≡ 6
+
+-- the board behind a pack's tokens and a last `;`
+abbrev pub lastBoard : Arrays → Text → Board
+lastBoard a s = boardAfter (boards (record { walk = startWalk; arrays = a }) (tokens 0 s)) semi (length s)
+
+abbrev pub packOf : Arrays → ℕ → Pack
+packOf a n =
+    record {
+      low = a .low;
+      high = a .high;
+      operand = a .operand;
+      modulus = a .modulus;
+      negated = a .negated;
+      ranges = a .ranges;
+      relations = a .relations;
+      keyword = a .keyword;
+      clauses = a .clauses;
+      count = n;
+    }
+
+-- a reading holds what the last board has, whatever the arrays held before
+pub record ReadOf (r : PackReading) (s : Text) : Type 0 where
+  pub from : Arrays
+  pub sized : Sized from
+  pub verdict : r .verdict ≡ judged (lastBoard from s .walk)
+  pub pack : r .pack ≡ packOf (lastBoard from s .arrays) (counted (judged (lastBoard from s .walk)) (lastBoard from s .walk .counts .rules))

@@ -1,0 +1,76 @@
+// Reads packs, one a line, and prints for each `ok` and how many rules it has, or `!` and the number
+// and place of its refusal.
+ghost use Prim.Native.Nat.{_≤_};
+ghost use lib.ListN.{length};
+use answer::Refusal;
+use libc::STDIN_FILENO;
+use libc::STDOUT_FILENO;
+use pack::PackReading;
+use pack::Verdict;
+
+fn wide(x: usize) -> u64 {
+    x as u64
+}
+
+fn wide_byte(x: u8) -> u64 {
+    x as u64
+}
+
+fn print_refusal(r: Refusal) {
+    io::write_all(STDOUT_FILENO, b"! ");
+    io::print_decimal(STDOUT_FILENO, wide_byte(answer::number(r)));
+    let f = answer::figures(r);
+    if 0 < f.count {
+        io::write_all(STDOUT_FILENO, b" ");
+        io::print_decimal(STDOUT_FILENO, f.values[0]);
+    }
+    io::write_all(STDOUT_FILENO, b"\n");
+}
+
+fn print_count(n: usize) {
+    io::write_all(STDOUT_FILENO, b"ok ");
+    io::print_decimal(STDOUT_FILENO, wide(n));
+    io::write_all(STDOUT_FILENO, b"\n");
+}
+
+fn print_reading(r: PackReading) {
+    let v = r.verdict;
+    let p = r.pack;
+    match v {
+        Verdict::Good => print_count(p.count),
+        Verdict::Refused(x) => print_refusal(x),
+    }
+}
+
+// The place of the line end at or behind a place, or the length.
+fn line_end(s: &[u8], from: usize) -> usize
+    requires { ⌜ from ≤ length (now s) ⌝ }
+    ensures { λ r. ⌜ (from ≤ r) × (r ≤ length (now (s .entry))) ⌝ }
+{
+    let mut i = from;
+    while i < s.len() {
+        if s[i] == 10 {
+            return i;
+        }
+        i += 1;
+    }
+    i
+}
+
+fn print_all(input: &[u8]) {
+    let mut from = 0;
+    while from < input.len() {
+        let end = line_end(input, from);
+        print_reading(pack::read_pack(decimal::cut::after(decimal::cut::upto(input, end), from)));
+        if end == input.len() {
+            return;
+        }
+        from = end + 1;
+    }
+}
+
+fn main() {
+    let mut buffer = io::large_buffer();
+    let held = io::read_full(STDIN_FILENO, &mut buffer);
+    print_all(&buffer[..held]);
+}

@@ -1,0 +1,50 @@
+-- What may follow in a pack, without what has been read: the automaton that the code runs, `;` among its tokens.
+use mathlib.Core.Bool.{Bool, true, false}
+use Prim.Native.Nat.{ℕ}
+use Rattle.decimal.specs.Choice.{if_then_else_}
+use Rattle.token.specs.Spelling.{same}
+use Rattle.token.specs.Token.{dots, differ}
+use Rattle.grammar.specs.Grammar.{Text, colon, semi, comma, percent, equal, and, or, isWord, isNumber, isOperand}
+use Rattle.phase.specs.declared.Phase.{Phase}
+use Rattle.phase.specs.declared.Phase.the-variants.{Name, Colon, Nothing, Operand, ModulusOrSign, Modulus, Sign, Value, DotsOrMore, Upper, More, Dead}
+
+abbrev pub afterSign : Text → Phase
+afterSign t = if same t equal then Value else if same t differ then Value else Dead
+
+abbrev pub afterRelation : Text → Phase
+afterRelation t =
+    if same t comma then Value else
+    if same t and then Operand else
+    if same t or then Operand else
+    if same t semi then Name else
+    Dead
+
+-- the phase behind a token; `x`: the token before was `other`
+abbrev pub nextPhase : Phase → Bool → Text → Phase
+nextPhase Name x t = if isWord t then Colon else Dead
+nextPhase Colon x t = if same t colon then (if x then Nothing else Operand) else Dead
+nextPhase Nothing x t = if same t semi then Name else Dead
+nextPhase Operand x t = if isOperand t then ModulusOrSign else Dead
+nextPhase ModulusOrSign x t = if same t percent then Modulus else afterSign t
+nextPhase Modulus x t = if isNumber t then Sign else Dead
+nextPhase Sign x t = afterSign t
+nextPhase Value x t = if isNumber t then DotsOrMore else Dead
+nextPhase DotsOrMore x t = if same t dots then Upper else afterRelation t
+nextPhase Upper x t = if isNumber t then More else Dead
+nextPhase More x t = afterRelation t
+nextPhase Dead x t = Dead
+
+-- phases by number, in their order
+abbrev pub phaseNumber : Phase → ℕ
+phaseNumber Name = 0
+phaseNumber Colon = 1
+phaseNumber Nothing = 2
+phaseNumber Operand = 3
+phaseNumber ModulusOrSign = 4
+phaseNumber Modulus = 5
+phaseNumber Sign = 6
+phaseNumber Value = 7
+phaseNumber DotsOrMore = 8
+phaseNumber Upper = 9
+phaseNumber More = 10
+phaseNumber Dead = 11

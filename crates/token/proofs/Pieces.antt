@@ -1,0 +1,101 @@
+-- Laws of pieces, white space or tokens: each has a byte and ends within the text; a text's tokens, piece by piece.
+use mathlib.Core.Path.{_≡_, refl, sym, ap, _∙_}
+use mathlib.Core.Bool.{Bool, true, false}
+use mathlib.Core.List.{List, [], _∷_}
+use Prim.Native.Nat.{ℕ, zero, suc, _+_, _-_, _≤_, _<_}
+use native.Mathlib.Omega.{arith}
+use native.Mathlib.Numerals.{add-one}
+use lib.Dec.{eqb, ltb}
+use lib.ListN.{length, getD, take, drop, drop-of-length-le, length-drop}
+use lib.Seq.{drop-cons}
+use borrow.Author.Tests.{eq-eqb, ne-eqb, eqb-false, ltb-true}
+use Rattle.decimal.specs.Choice.{if_then_else_}
+use Rattle.decimal.specs.Digits.{isDigit, run}
+use Rattle.decimal.proofs.Choices.{choice, tested}
+use Rattle.decimal.proofs.Runs.{run-le}
+use Rattle.token.specs.Spelling.{starts}
+use Rattle.token.specs.Token.{whites, whiteLen, isWhite, isLetter, letters, dots, differ, tokenLen, pieceLen, Token, tokensFor, tokens}
+use Rattle.token.proofs.Spellings.{starts-le, length-of-le}
+
+-- ---- runs of letters
+
+pub letters-more : (s : List ℕ) (i : ℕ) → i < length s → isLetter (getD s i 0) ≡ true → i + letters (drop i s) ≡ (i + 1) + letters (drop (i + 1) s)
+letters-more s i h d = rw (add-one, drop-cons s i 0 h, d) (omega arith)
+
+pub letters-end : (s : List ℕ) (i : ℕ) → i < length s → isLetter (getD s i 0) ≡ false → letters (drop i s) ≡ 0
+letters-end s i h d = rw (drop-cons s i 0 h, d)
+
+pub letters-out : (s : List ℕ) (i : ℕ) → length s ≤ i → letters (drop i s) ≡ 0
+letters-out s i h = rw (drop-of-length-le s h)
+
+letters-le : (s : List ℕ) → letters s ≤ length s
+letters-le [] = omega arith
+letters-le (b ∷ s) = tested (isLetter b) (λ k. rw k (omega (arith, letters-le s))) (λ k. rw k (omega arith))
+
+-- ---- how long a piece is
+
+none : {A : Type 0} → 0 < 0 → A
+none {A} h = absurd (no h)
+  where
+    no : 0 < 0 → ⊥
+    no k = omega arith
+
+letters-pos : (s : List ℕ) → 0 < length s → isLetter (getD s 0 0) ≡ true → 0 < letters s
+letters-pos [] h e = none h
+letters-pos (b ∷ s) h e = rw e (omega arith)
+
+digits-pos : (s : List ℕ) → 0 < length s → isDigit (getD s 0 0) ≡ true → 0 < run s
+digits-pos [] h e = none h
+digits-pos (b ∷ s) h e = rw e (omega arith)
+
+token-piece : (s : List ℕ) → 0 < length s → (0 < tokenLen s) × (tokenLen s ≤ length s)
+token-piece s h =
+    choice P (isLetter (getD s 0 0)) (λ e. (letters-pos s h e, letters-le s))
+    (λ _. choice P (isDigit (getD s 0 0)) (λ e. (digits-pos s h e, run-le s))
+    (λ _. choice P (starts dots s) (λ e. (omega arith, starts-le dots s e))
+    (λ _. choice P (starts differ s) (λ e. (omega arith, starts-le differ s e)) (λ _. (omega arith, h)))))
+  where
+    P : ℕ → Type 0
+    P n = (0 < n) × (n ≤ length s)
+
+pub piece : (s : List ℕ) → 0 < length s → (0 < pieceLen s) × (pieceLen s ≤ length s)
+piece s h =
+    choice (λ n. (0 < n) × (n ≤ length s)) (isWhite s) (λ e. (ltb-true 0 (whiteLen s) e, length-of-le whites s)) (λ _. token-piece s h)
+
+-- ---- the tokens of a text: those of its first piece, and of what is left
+
+pub no-tokens : (k a : ℕ) (s : List ℕ) → length s ≡ 0 → tokensFor k a s ≡ []
+no-tokens zero a s e = refl
+no-tokens (suc k) a s e = rw (eq-eqb (length s) 0 e)
+
+-- the tokens of one piece, and those behind it
+abbrev pub pieced : Bool → ℕ → List ℕ → List Token → List Token
+pieced w a u l = if w then l else record { at = a; text = u } ∷ l
+
+-- more pieces than enough make no difference
+enough : (f g a : ℕ) (s : List ℕ) → length s ≤ f → length s ≤ g → tokensFor f a s ≡ tokensFor g a s
+enough zero g a s hf hg = sym (no-tokens g a s (omega arith))
+enough (suc f) zero a s hf hg = no-tokens (suc f) a s (omega arith)
+enough (suc f) (suc g) a s hf hg =
+    go (eqb (length s) 0) refl
+    (λ h. let p = piece s h in
+    enough f g (a + pieceLen s) (drop (pieceLen s) s) (omega (arith, length-drop (pieceLen s) s, p .0)) (omega (arith, length-drop (pieceLen s) s, p .0)))
+  where
+    some : (a : ℕ) → (a ≡ 0 → ⊥) → 0 < a
+    some a f = omega arith
+
+    go : (x : Bool) → eqb (length s) 0 ≡ x → {y z : List Token} → (0 < length s → y ≡ z)
+        → (if x then [] else pieced (isWhite s) a (take (pieceLen s) s) y) ≡ (if x then [] else pieced (isWhite s) a (take (pieceLen s) s) z)
+    go true e h = refl
+    go false e h = ap (pieced (isWhite s) a (take (pieceLen s) s)) (h (some (length s) (eqb-false (length s) 0 e)))
+
+pub tokens-turn : (a : ℕ) (s : List ℕ) → 0 < length s
+    → tokens a s ≡ pieced (isWhite s) a (take (pieceLen s) s) (tokens (a + pieceLen s) (drop (pieceLen s) s))
+tokens-turn a s h =
+    let k = pieceLen s in
+    let j : length s ≡ suc (length s - 1) = omega arith in
+    let z : length s ≡ 0 → ⊥ = λ q. omega arith in
+    let p = piece s h in
+    ap (λ (n : ℕ). tokensFor n a s) j
+    ∙ rw (ne-eqb (length s) 0 z)
+    (ap (pieced (isWhite s) a (take k s)) (enough (length s - 1) (length (drop k s)) (a + k) (drop k s) (omega (arith, length-drop k s, p .0)) (omega arith)))

@@ -1,0 +1,25 @@
+-- A walk made of parts that are each as defined is the walk as defined.
+use mathlib.Core.Path.{_≡_, refl}
+use mathlib.Core.Bool.{Bool}
+use mathlib.Core.List.{List}
+use Prim.Native.Nat.{ℕ}
+use lib.Dec.{eqb}
+use lib.ListN.{take}
+use Rattle.decimal.specs.Choice.{both}
+use Rattle.grammar.specs.Grammar.{Text}
+use Rattle.phase.specs.Next.{nextPhase, phaseNumber}
+use Rattle.phase.specs.declared.Phase.{Phase}
+use Rattle.walk.specs.Steps.{capped, held, closesAt, countsAfter, keyAfter, currentAfter, rowAt, markAfter, walkAfter}
+use Rattle.walk.specs.declared.Counts.{Counts}
+use Rattle.walk.specs.declared.Closes.{Closes}
+use Rattle.walk.specs.declared.Current.{Current}
+use Rattle.walk.specs.declared.Mark.{Mark}
+use Rattle.walk.specs.declared.Walk.{Walk}
+
+pub walk-is : (t : Text) (at : ℕ) (keys : List ℕ) (w : Walk) {k v key row : ℕ} {again : Bool} {q : Phase} {x : Closes} {d : Counts} {n : Current} {f : Mark}
+    → k ≡ phaseNumber (w .phase) → v ≡ capped t → key ≡ keyAfter k t (w .current .key)
+    → again ≡ both (eqb k 0) (held key (take (w .counts .rules) keys)) → row ≡ rowAt k key again v (w .counts) (w .current .low)
+    → q ≡ nextPhase (w .phase) (w .current .other) t → x ≡ closesAt k t → d ≡ countsAfter (w .counts) (eqb k 7) x
+    → n ≡ currentAfter (w .current) k t v key → f ≡ markAfter (w .mark) k row at
+    → record { phase = q; counts = d; current = n; mark = f } ≡ walkAfter t at keys w
+walk-is t at keys w hk hv hy ha hr hq hx hd hn hf = rw (hq, hd, hn, hf, hr, ha, hx, hy, hv, hk)
