@@ -1,0 +1,49 @@
+-- Selection tests the pack, then the number, then 27.
+use mathlib.Core.Path.{_≡_, refl, sym, ap, _∙_}
+use mathlib.Core.List.{List, [], _∷_}
+use mathlib.Core.Logic.{_↔_, _⊎_}
+use Prim.Native.Nat.{ℕ, _≤_, _<_}
+use lib.ListN.{length}
+use Rattle.decimal.specs.Digits.{begins}
+use Rattle.decimal.proofs.Choices.{never}
+use Rattle.answer.specs.declared.Keyword.{Keyword}
+use Rattle.answer.specs.declared.Refusal.{Refusal}
+use Rattle.number.specs.Reading.{readNumber}
+use Rattle.number.specs.declared.Number.{Number}
+use Rattle.number.specs.declared.Reading.{Reading}
+use Rattle.number.specs.declared.Reading.the-variants.{Is, Refused as NumberRefused}
+use Rattle.rules.specs.Syntax.{Rule}
+use Rattle.grammar.specs.Reader.{PackAnswer, readPack}
+use Rattle.grammar.specs.Reader.PackAnswer.{Rules, Refused as PackRefused}
+use Rattle.pack.specs.Answer.{verdictOf, rulesOf}
+use Rattle.pack.specs.declared.Verdict.{Verdict}
+use Rattle.pack.specs.declared.Verdict.the-variants.{Good, Refused as Bad}
+use Rattle.plural.specs.Select.{selection}
+use Rattle.plural.specs.declared.Selection.{Selection}
+use Rattle.plural.specs.declared.Selection.the-variants.{Refused}
+use Rattle.select.specs.Select.{selectNumber, selectRules, selectOf}
+
+-- the verdict and the rules that the reader of packs returns decide as its answer does
+pub good : (a : PackAnswer) (v : Verdict) (rules : List Rule) (x : Reading) → v ≡ verdictOf a → v ≡ Good → rules ≡ rulesOf a → selectNumber rules x ≡ selectRules a x
+good (Rules rs) v rules x e g r = ap (λ (l : List Rule). selectNumber l x) r
+good (PackRefused f) v rules x e g r = never (cc)
+
+pub bad : (a : PackAnswer) (v : Verdict) (f : Refusal) (x : Reading) → v ≡ verdictOf a → v ≡ Bad f → Refused f ≡ selectRules a x
+bad (Rules rs) v f x e b = never (cc)
+bad (PackRefused g) v f x e b =
+    let same : f ≡ g = cc in
+    ap Refused same
+
+-- ---- the order of the tests
+
+-- a refused pack decides, whatever the number
+pub pack-first : (pack number : List ℕ) (f : Refusal) → readPack pack ≡ PackRefused f → selectOf pack number ≡ Refused f
+pack-first pack number f e = rw e
+
+-- then a refused number
+pub number-second : (pack number : List ℕ) (rules : List Rule) (f : Refusal) → readPack pack ≡ Rules rules → readNumber number ≡ NumberRefused f → selectOf pack number ≡ Refused f
+number-second pack number rules f p n = rw (p, n)
+
+-- else the rules and the number decide
+pub rules-last : (pack number : List ℕ) (rules : List Rule) (x : Number) → readPack pack ≡ Rules rules → readNumber number ≡ Is x → selectOf pack number ≡ selection rules x
+rules-last pack number rules x p n = rw (p, n)
