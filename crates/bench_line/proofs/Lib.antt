@@ -1,3 +1,4 @@
 pub mod Moves
 pub mod Streams
 pub mod Fields
+pub mod Answers

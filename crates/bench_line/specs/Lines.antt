@@ -7,6 +7,15 @@ use lib.ListN.{length}
 use Rattle.decimal.specs.Choice.{if_then_else_}
 use Rattle.decimal.specs.Digits.{numeral}
 use Rattle.decimal.specs.Split.{onFirst}
+use Rattle.answer.specs.Table.{numberOf, figuresOf}
+use Rattle.answer.specs.Words.{spelling}
+use Rattle.answer.specs.declared.Keyword.{Keyword}
+use Rattle.answer.specs.declared.Refusal.{Refusal}
+use Rattle.plural.specs.declared.Selection.{Selection}
+use Rattle.plural.specs.declared.Selection.the-variants.{Word, Refused}
+use Rattle.select.specs.Select.{selectOf}
+use Rattle.bench_line.specs.Jobs.{Job, jobOf}
+use Rattle.bench_line.specs.Jobs.Job.{select, check, format, none}
 
 -- the lines of an input, without their LF: none is left behind a last LF
 abbrev pub lines : List ℕ → List (List ℕ)
@@ -21,9 +30,32 @@ maxLine = 8192
 abbrev pub unread : ℕ → List ℕ
 unread n = 63 ∷ 32 ∷ numeral n ++ (10 ∷ [])
 
+-- numbers, each behind a space
+abbrev pub spaced : List ℕ → List ℕ
+spaced [] = []
+spaced (n ∷ ns) = (32 ∷ numeral n) ++ spaced ns
+
+-- "A refusal prints `!` after the letter, then its number and figures."
+abbrev pub refusalText : ℕ → Refusal → List ℕ
+refusalText letter r = ((letter ∷ 33 ∷ []) ++ spaced (numberOf r ∷ figuresOf r)) ++ (10 ∷ [])
+
+-- `s` and the word
+abbrev pub wordText : Keyword → List ℕ
+wordText k = ((115 ∷ 32 ∷ []) ++ spelling k) ++ (10 ∷ [])
+
+abbrev pub selectionText : Selection → List ℕ
+selectionText (Word k) = wordText k
+selectionText (Refused r) = refusalText 115 r
+
+abbrev pub jobText : Job → List ℕ
+jobText (select pack number) = selectionText (selectOf pack number)
+jobText (check pack) = unread 61
+jobText (format pattern number) = unread 61
+jobText none = unread 61
+
 -- the answer to a line of at most 8,192 bytes: "any other line, one with a TAB inside a field too, `? 61`"
 abbrev pub jobAnswer : List ℕ → List ℕ
-jobAnswer line = unread 61
+jobAnswer line = jobText (jobOf line)
 
 -- "A line over 8,192 bytes, its LF not counted, answers `? 60`"
 abbrev pub answerTo : List ℕ → List ℕ

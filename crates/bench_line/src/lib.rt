@@ -5,10 +5,16 @@
 // is cut into pieces.
 ghost use mathlib.Core.Path.{_≡_};
 ghost use Prim.Native.Nat.{_+_, _≤_, min};
-ghost use lib.ListN.{drop};
+ghost use mathlib.Core.List.{_∷_};
+ghost use lib.ListN.{take, drop};
+ghost use Rattle.decimal.specs.Digits.{numeral};
 ghost use Rattle.area.specs.Area.{Wrote};
 ghost use Rattle.bench_line.specs.Jobs.{jobOf, jobAt, jobWith, lastField};
-ghost use Rattle.bench_line.specs.Lines.{unread, jobAnswer};
+ghost use Rattle.bench_line.specs.Lines.{unread, spaced, refusalText, wordText, selectionText, jobAnswer};
+use answer::FigureList;
+use answer::Keyword;
+use answer::Refusal;
+use plural::Selection;
 ghost use Rattle.bench_line.specs.Stream.{lastCut, cutOf, cutAnswer, Kept};
 
 const MAX_LINE: usize = 8192;
@@ -124,11 +130,87 @@ fn append_unread(out: &mut [u8], at: usize, n: u64) -> usize
     area::put(out, number, 10)
 }
 
+// Appends a space and a number.
+fn append_spaced(out: &mut [u8], at: usize, n: u64) -> usize
+    ensures { λ r. ⌜ Wrote (now (out .entry)) at (32 ∷ numeral n) (now (out .exit)) r ⌝ }
+{
+    let space = area::put(out, at, 32);
+    area::append_number(out, space, n)
+}
+
+// Appends figures, each behind a space.
+fn append_figures(out: &mut [u8], at: usize, f: FigureList) -> usize
+    ensures { λ r. ⌜ Wrote (now (out .entry)) at (spaced (take (f .count) (f .values))) (now (out .exit)) r ⌝ }
+{
+    let values = f.values;
+    let mut end = at;
+    let mut k = 0;
+    while k < 6 {
+        if f.count <= k {
+            return end;
+        }
+        end = append_spaced(out, end, values[k]);
+        k += 1;
+    }
+    end
+}
+
+fn wide(x: u8) -> u64
+    ensures { λ r. ⌜ r ≡ x ⌝ }
+{
+    x as u64
+}
+
+// Appends the letter of a job, `!`, and the number and figures of a refusal.
+fn append_refusal(out: &mut [u8], at: usize, letter: u8, refusal: Refusal) -> usize
+    ensures { λ r. ⌜ Wrote (now (out .entry)) at (refusalText letter refusal) (now (out .exit)) r ⌝ }
+{
+    let name = area::put(out, at, letter);
+    let mark = area::put(out, name, 33);
+    let number = append_spaced(out, mark, wide(answer::number(refusal)));
+    let figures = append_figures(out, number, answer::figures(refusal));
+    area::put(out, figures, 10)
+}
+
+// Appends `s` and a word.
+fn append_word(out: &mut [u8], at: usize, k: Keyword) -> usize
+    ensures { λ r. ⌜ Wrote (now (out .entry)) at (wordText k) (now (out .exit)) r ⌝ }
+{
+    let word = answer::word(k);
+    let letters = word.letters;
+    let name = area::append(out, at, b"s ");
+    let end = area::append(out, name, decimal::cut::upto(&letters, word.len));
+    area::put(out, end, 10)
+}
+
+fn append_selection(out: &mut [u8], at: usize, s: Selection) -> usize
+    ensures { λ r. ⌜ Wrote (now (out .entry)) at (selectionText s) (now (out .exit)) r ⌝ }
+{
+    match s {
+        Selection::Word(k) => append_word(out, at, k),
+        Selection::Refused(refusal) => append_refusal(out, at, 115, refusal),
+    }
+}
+
 // Appends the answer to a line of at most MAX_LINE bytes.
 fn append_job(out: &mut [u8], at: usize, line: &[u8]) -> usize
     ensures { λ r. ⌜ Wrote (now (out .entry)) at (jobAnswer (now (line .entry))) (now (out .exit)) r ⌝ }
 {
-    append_unread(out, at, 61)
+    let fields = decimal::cut::after(line, 2);
+    let job = read_job(line);
+    match job {
+        JobCut::SelectAt(n) => append_selection(
+            out,
+            at,
+            select::select(
+                decimal::cut::upto(fields, n),
+                decimal::cut::after(decimal::cut::after(fields, n), 1),
+            ),
+        ),
+        JobCut::CheckAt => append_unread(out, at, 61),
+        JobCut::FormatAt(_) => append_unread(out, at, 61),
+        JobCut::Unknown => append_unread(out, at, 61),
+    }
 }
 
 // Appends the answer to a line. `long`: a part of the line was dropped, being too long.
