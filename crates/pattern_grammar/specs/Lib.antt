@@ -1,0 +1,2 @@
+pub mod NumberPart
+pub mod Grammar
