@@ -121,7 +121,7 @@ items-one q n (b ∷ r) h =
     (items-skip (quotedAfter q (t .item)) (isNumber (t .item)) (t .width - 1) r
     ∙ ap (itemsFrom (quotedAfter q (t .item)) (isNumber (t .item)) 0) (sym (drop-some (t .width) b r (token-fits q n (b ∷ r) h .some))))
 
-affix-one : (q n : Bool) (x : List ℕ) → 0 < length x → endsAffix (tokenAt q n x .item) ≡ false
+pub affix-one : (q n : Bool) (x : List ℕ) → 0 < length x → endsAffix (tokenAt q n x .item) ≡ false
     → affixFrom q n 0 x
     ≡ grown (tokenAt q n x .width) (affixFrom (quotedAfter q (tokenAt q n x .item)) (isNumber (tokenAt q n x .item)) 0 (drop (tokenAt q n x .width) x))
 affix-one q n [] h f = absurd (no h)
@@ -140,7 +140,7 @@ affix-one q n (b ∷ r) h f =
     ∙ ap (λ (k : ℕ). grown k a) e
     ∙ ap (λ (l : List ℕ). grown (t .width) (affixFrom q′ n′ 0 l)) (sym (drop-some (t .width) b r (w .some))))
 
-affix-none : (q n : Bool) (x : List ℕ) → 0 < length x → endsAffix (tokenAt q n x .item) ≡ true → affixFrom q n 0 x ≡ record { len = 0; closed = true }
+pub affix-none : (q n : Bool) (x : List ℕ) → 0 < length x → endsAffix (tokenAt q n x .item) ≡ true → affixFrom q n 0 x ≡ record { len = 0; closed = true }
 affix-none q n [] h f = absurd (no h)
   where
     no : 0 < 0 → ⊥
