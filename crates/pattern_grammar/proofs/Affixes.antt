@@ -24,7 +24,7 @@ use Rattle.pattern_grammar.specs.Grammar.{isBare, IsAffix, done, apostro
 
 -- ---- bare bytes
 
-both-true : (x y : Bool) → both x y ≡ true → (x ≡ true) × (y ≡ true)
+pub both-true : (x y : Bool) → both x y ≡ true → (x ≡ true) × (y ≡ true)
 both-true true y e = (refl, e)
 both-true false y e = not-both e refl
 
@@ -58,7 +58,7 @@ bare-is n b k e =
     tested (isPlace b) (λ p. not-both (place-ends n b p) e)
     (λ p. tested (eqb b 59) (λ s. not-both (semicolon-ends n b (eqb-true b 59 s)) e) (λ s. rw (k, p, s)))
 
-bare-parts : (b : ℕ) → isBare b ≡ true → (eqb b 39 ≡ false) × (isPlace b ≡ false) × (eqb b 59 ≡ false)
+pub bare-parts : (b : ℕ) → isBare b ≡ true → (eqb b 39 ≡ false) × (isPlace b ≡ false) × (eqb b 59 ≡ false)
 bare-parts b e =
     tested (eqb b 39) (λ k. not-both e (rw k))
     (λ k.

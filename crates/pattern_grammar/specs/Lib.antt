@@ -1,2 +1,3 @@
 pub mod NumberPart
 pub mod Grammar
+pub mod Verdict
