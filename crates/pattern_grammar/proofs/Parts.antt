@@ -223,7 +223,7 @@ hashes-run (b ∷ m) e = rw (hash-no-digit b (hashes-head b m e .0))
 pub fraction-complete : (f : List ℕ) → IsFraction f → fractionFits f ≡ true
 fraction-complete f p =
     let r : run f ≡ length (p .figures) =
-        rw (p .text) (run-append (p .figures) (p .marks) (p .figures-are) ∙ omega (arith, hashes-run (p .marks) (p .marks-are))) in
+    rw (p .text) (run-append (p .figures) (p .marks) (p .figures-are) ∙ omega (arith, hashes-run (p .marks) (p .marks-are))) in
     let d : drop (run f) f ≡ p .marks = rw (r, p .text) (drop-at (p .figures) (p .marks) (length (p .figures)) refl) in
     let n : length f ≡ length (p .figures) + length (p .marks) = rw (p .text) (length-append (p .figures) (p .marks)) in
     eq-eqb (run f + hashes (drop (run f) f)) (length f) (rw d (omega (arith, r, n, p .marks-are)))
@@ -288,8 +288,8 @@ sides-of n = tested (ltb (find 46 n) (length n)) some none
     some k =
         let h = ltb-true (find 46 n) (length n) k in
         let e : n ≡ wholeOf n ++ (46 ∷ fractionOf n) =
-            sym (take-append-drop (find 46 n) n)
-            ∙ ap (λ (l : List ℕ). wholeOf n ++ l) (drop-cons n (find 46 n) 0 h ∙ rw (find-point n h, add-one (find 46 n))) in
+        sym (take-append-drop (find 46 n) n)
+        ∙ ap (λ (l : List ℕ). wholeOf n ++ l) (drop-cons n (find 46 n) 0 h ∙ rw (find-point n h, add-one (find 46 n))) in
         subst (λ (l : List ℕ). Sides l (wholeOf n) (fractionOf n)) (sym e) pointed
 
     none : ltb (find 46 n) (length n) ≡ false → Sides n (wholeOf n) (fractionOf n)

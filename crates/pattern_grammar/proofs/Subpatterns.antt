@@ -65,9 +65,9 @@ hashes-places (b ∷ s) r e =
 fraction-places : (f r : List ℕ) → IsFraction f → places (f ++ r) ≡ length f + places r
 fraction-places f r p =
     let e : places ((p .figures ++ p .marks) ++ r) ≡ length (p .figures ++ p .marks) + places r =
-        ap places (append-assoc (p .figures) (p .marks) r)
-        ∙ (digits-places (p .figures) (p .marks ++ r) (p .figures-are)
-        ∙ omega (arith, hashes-places (p .marks) r (p .marks-are), length-append (p .figures) (p .marks))) in
+    ap places (append-assoc (p .figures) (p .marks) r)
+    ∙ (digits-places (p .figures) (p .marks ++ r) (p .figures-are)
+    ∙ omega (arith, hashes-places (p .marks) r (p .marks-are), length-append (p .figures) (p .marks))) in
     rw (p .text) e
 
 sides-places : {n w f : List ℕ} → Sides n w f → ordered false w ≡ true → IsFraction f → (r : List ℕ) → places (n ++ r) ≡ length n + places r
@@ -151,7 +151,7 @@ read-sub a r w e =
     let n = w .number in
     let x = w .suffix in
     let t : p ++ (n ++ (x ++ r)) ≡ a ++ r =
-        sym (ap (λ (l : List ℕ). l ++ r) (w .text) ∙ (append-assoc p (n ++ x) r ∙ ap (λ (l : List ℕ). p ++ l) (append-assoc n x r))) in
+    sym (ap (λ (l : List ℕ). l ++ r) (w .text) ∙ (append-assoc p (n ++ x) r ∙ ap (λ (l : List ℕ). p ++ l) (append-assoc n x r))) in
     subst (λ (s : List ℕ). Read s p n x) t (read-parts p n x r (w .prefix-is) (w .number-is) (w .suffix-is) e)
 
 pub read-end : (a r : List ℕ) (w : IsSub a) → ends r ≡ true → endOf (halfOf (a ++ r)) ≡ length a
@@ -159,7 +159,7 @@ read-end a r w e =
     let d = read-sub a r w e in
     let x : suffixAffix (a ++ r) .len ≡ length (w .suffix) = ap (λ (y : Affix). y .len) (d .suffix) in
     let l : length a ≡ length (w .prefix) + (length (w .number) + length (w .suffix)) =
-        ap length (w .text) ∙ (length-append (w .prefix) (w .number ++ w .suffix) ∙ ap (λ (k : ℕ). length (w .prefix) + k) (length-append (w .number) (w .suffix))) in
+    ap length (w .text) ∙ (length-append (w .prefix) (w .number ++ w .suffix) ∙ ap (λ (k : ℕ). length (w .prefix) + k) (length-append (w .number) (w .suffix))) in
     omega (arith, d .prefix, d .number, x, l)
 
 pub read-fits : (a r : List ℕ) (w : IsSub a) → ends r ≡ true → fits (halfOf (a ++ r)) ≡ true
@@ -243,7 +243,7 @@ pattern-sound s e = tested (eqb (endOf (halfOf s)) (length s)) alone other
         let u : take (endOf (halfOf b)) b ≡ b = rw (sym n) (take-length b) in
         let v : IsSub b = subst IsSub u (sub-sound b h) in
         let t : take at s ++ (59 ∷ b) ≡ s =
-            ap (λ (l : List ℕ). take at s ++ l) (sym (drop-cons s at 0 (within s at g) ∙ rw (g, add-one at))) ∙ take-append-drop at s in
+        ap (λ (l : List ℕ). take at s ++ l) (sym (drop-cons s at 0 (within s at g) ∙ rw (g, add-one at))) ∙ take-append-drop at s in
         subst IsPattern t (two w v)
 
     other : eqb (endOf (halfOf s)) (length s) ≡ false → IsPattern s
@@ -284,8 +284,13 @@ pattern-complete (two {a} {b} w v) =
     second a b at i f e h n =
         let d : drop (at + 1) (a ++ (59 ∷ b)) ≡ b = rw i (past a b) in
         let g : getD (a ++ (59 ∷ b)) at 0 ≡ 59 = rw i (getD-append-seam a 59 b 0) in
-        rw (ne-eqb at (length (a ++ (59 ∷ b))) (λ y. omega arith), eq-eqb (getD (a ++ (59 ∷ b)) at 0) 59 g, d,
-        eq-eqb (at + 1 + endOf (halfOf b)) (length (a ++ (59 ∷ b))) (omega arith), f) h
+        rw (
+          ne-eqb at (length (a ++ (59 ∷ b))) (λ y. omega arith),
+          eq-eqb (getD (a ++ (59 ∷ b)) at 0) 59 g,
+          d,
+          eq-eqb (at + 1 + endOf (halfOf b)) (length (a ++ (59 ∷ b))) (omega arith),
+          f,
+        ) h
       where
         past : (a b : List ℕ) → drop (length a + 1) (a ++ (59 ∷ b)) ≡ b
         past [] b = refl
