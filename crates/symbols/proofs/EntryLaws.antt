@@ -24,12 +24,12 @@ pub head-within : (k : Kind) (n : ℕ) → 0 < n → headIn k n .len < n
 head-within Unknown n h = h
 head-within (Known y m) n h = choice (λ (x : Head). x .len < n) (ltb m n) (λ e. ltb-true m n e) (λ e. h)
 
-entries-skip : (k : ℕ) (s : List ℕ) → entriesFrom k s ≡ entriesFrom 0 (drop k s)
+pub entries-skip : (k : ℕ) (s : List ℕ) → entriesFrom k s ≡ entriesFrom 0 (drop k s)
 entries-skip zero s = refl
 entries-skip (suc k) [] = refl
 entries-skip (suc k) (b ∷ s) = entries-skip k s
 
-broken-skip : (k : ℕ) (s : List ℕ) → brokenFrom k s ≡ brokenFrom 0 (drop k s)
+pub broken-skip : (k : ℕ) (s : List ℕ) → brokenFrom k s ≡ brokenFrom 0 (drop k s)
 broken-skip zero s = refl
 broken-skip (suc k) [] = refl
 broken-skip (suc k) (b ∷ s) = broken-skip k s
