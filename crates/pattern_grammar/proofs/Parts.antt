@@ -315,3 +315,7 @@ number-sound n e = tested (ltb 0 (digits n)) some (λ k. not-both e (rw k))
               fraction-is = fraction-sound (fractionOf n) (rw (k, w) at e);
               some-digit = ltb-true 0 (digits n) k;
             }
+
+pub number-whole : (n : List ℕ) → numberFits n ≡ true → wholeFits (wholeOf n) ≡ true
+number-whole n e =
+    tested (ltb 0 (digits n)) (λ k. tested (wholeFits (wholeOf n)) (λ w. w) (λ w. not-both e (rw (k, w)))) (λ k. not-both e (rw k))

@@ -297,3 +297,34 @@ pattern-complete (two {a} {b} w v) =
         past (c ∷ a) b =
             let e : suc (length a) + 1 ≡ suc (length a + 1) = omega arith in
             rw e (past a b)
+
+-- the first subpattern of a pattern has a number part
+pub first-fits : (s : List ℕ) → wellFormed s ≡ true → numberFits (numberOf s) ≡ true
+first-fits s e = fits-parts s (first e) .1
+  where
+    first : wellFormed s ≡ true → fits (halfOf s) ≡ true
+    first e =
+        let at = endOf (halfOf s) in
+        let b = halfOf (drop (at + 1) s) in
+        tested (eqb at (length s)) (λ k. rw k at e)
+        (λ k.
+        tested (eqb (getD s at 0) 59)
+        (λ g.
+        tested (eqb (at + 1 + endOf b) (length s))
+        (λ l. both-true (fits (halfOf s)) (fits b) (rw (k, g, l) at e) .0)
+        (λ l. not-both e (rw (k, g, l))))
+        (λ g. not-both e (rw (k, g))))
+
+-- the parts of a subpattern are the ones that are read: a text is a subpattern in one way only
+pub parts-read : (s : List ℕ) (w : IsSub s) → (prefixOf s ≡ w .prefix) × (numberOf s ≡ w .number) × (suffixOf s ≡ w .suffix)
+parts-read s w =
+    let d : Read s (w .prefix) (w .number) (w .suffix) = subst (λ (t : List ℕ). Read t (w .prefix) (w .number) (w .suffix)) (append-nil s) (read-sub s [] w refl) in
+    let p = w .prefix in
+    let n = w .number in
+    let x = w .suffix in
+    let t = w .text in
+    let rest : drop (length p + length n) (p ++ (n ++ x)) ≡ x =
+    sym (drop-drop (length n) (length p) (p ++ (n ++ x))) ∙ (rw (drop-at p (n ++ x) (length p) refl) (drop-at n x (length n) refl)) in
+    let b : behind s ≡ x = rw (d .number, d .prefix, t) rest in
+    let l : suffixAffix s .len ≡ length x = ap (λ (a : Affix). a .len) (d .suffix) in
+    (rw (d .prefix, t) (take-at p (n ++ x) (length p) refl), d .part, rw (l, b) (take-length x))

@@ -1,3 +1,4 @@
 pub mod NumberPart
 pub mod Grammar
 pub mod Verdict
+pub mod Bounds

@@ -108,10 +108,11 @@ spelled-read (e ∷ es) (more z a) =
     let r = textOf es in
     let h = head-spelled e r z in
     let p : n ≡ 0 → ⊥ = λ y. omega (arith, z .least) in
-    let d : drop n (e .body ++ r) ≡ r = drop-at (e .body) r n refl in
-    (entries-once (kindByte e) (e .body ++ r) (e .symbol) n h p
-    ∙ (rw (take-at (e .body) r n refl, d) (ap (λ (l : List Entry). e ∷ l) (ih .0))),
-    broken-once (kindByte e) (e .body ++ r) (e .symbol) n h p ∙ rw d (ih .1))
+    let d : drop n (e .body ++ r) ≡ r = drop-at (e .body) r n refl in (
+      entries-once (kindByte e) (e .body ++ r) (e .symbol) n h p
+          ∙ (rw (take-at (e .body) r n refl, d) (ap (λ (l : List Entry). e ∷ l) (ih .0))),
+      broken-once (kindByte e) (e .body ++ r) (e .symbol) n h p ∙ rw d (ih .1),
+    )
   where
     entries-once : (b : ℕ) (s : List ℕ) (y : Symbol) (n : ℕ) → headOf (b ∷ s) ≡ record { symbol = y; len = n } → (n ≡ 0 → ⊥)
         → entries (b ∷ s) ≡ record { symbol = y; body = take n s } ∷ entries (drop n s)
