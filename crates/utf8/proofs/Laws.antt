@@ -43,7 +43,7 @@ utf8-skip zero s = refl
 utf8-skip (suc k) [] = refl
 utf8-skip (suc k) (b ∷ s) = utf8-skip k s
 
-utf8-one : (x : List ℕ) → 0 < length x → (charLen x ≡ 0 → ⊥) → utf8From 0 x ≡ utf8From 0 (drop (charLen x) x)
+pub utf8-one : (x : List ℕ) → 0 < length x → (charLen x ≡ 0 → ⊥) → utf8From 0 x ≡ utf8From 0 (drop (charLen x) x)
 utf8-one [] h f = refl
 utf8-one (b ∷ r) h f =
     let n = charLen (b ∷ r) in
@@ -54,7 +54,7 @@ utf8-one (b ∷ r) h f =
     go zero f = absurd (f refl)
     go (suc n) f = omega arith
 
-utf8-none : (x : List ℕ) → 0 < length x → charLen x ≡ 0 → utf8From 0 x ≡ false
+pub utf8-none : (x : List ℕ) → 0 < length x → charLen x ≡ 0 → utf8From 0 x ≡ false
 utf8-none [] h e = absurd (no h)
   where
     no : 0 < 0 → ⊥

@@ -2,8 +2,9 @@
 use mathlib.Core.Path.{_≡_}
 use mathlib.Core.Bool.{Bool, true, false}
 use mathlib.Core.List.{List, [], _∷_, _++_}
-use Prim.Native.Nat.{ℕ, _+_, _/_, _%_, _≤_}
+use Prim.Native.Nat.{ℕ, _+_, _/_, _%_}
 use lib.Dec.{ltb}
+use lib.ListN.{length}
 use Rattle.decimal.specs.Choice.{if_then_else_, both}
 
 -- the number can be spelled: it is at most 10FFFF, and none of the surrogates D800 to DFFF
@@ -22,3 +23,21 @@ spell x =
 abbrev pub spellAll : List ℕ → List ℕ
 spellAll [] = []
 spellAll (x ∷ xs) = spell x ++ spellAll xs
+
+abbrev pub allScalar : List ℕ → Bool
+allScalar [] = true
+allScalar (x ∷ xs) = both (isScalar x) (allScalar xs)
+
+-- The text s begins with the code point x, of so many bytes.
+pub record Begins (s : List ℕ) (n : ℕ) : Type 0 where
+  pub char : ℕ
+  pub scalar : isScalar char ≡ true
+  pub size : length (spell char) ≡ n
+  pub behind : List ℕ
+  pub text : s ≡ spell char ++ behind
+
+-- The text s is the code points `chars`, one after the other.
+pub record IsText (s : List ℕ) : Type 0 where
+  pub chars : List ℕ
+  pub scalars : allScalar chars ≡ true
+  pub text : s ≡ spellAll chars
