@@ -19,6 +19,7 @@ use Rattle.lexer.specs.declared.Token.{Token}
 use Rattle.lexer.specs.declared.Affix.{Affix}
 use Rattle.lexer.specs.Items.{starts, apostrophe, permille, currency, bareOf, tokenAt, token, quotedAfter, isNumber, itemsFrom, items}
 use Rattle.lexer.specs.Affixes.{reserves, anyReserved, endsAffix, longer, affixFrom, affix, weight, marks}
+use Rattle.lexer.proofs.Lower.{drop-some}
 
 -- ---- a text begins with a word
 
@@ -97,15 +98,6 @@ affix-skip q n (suc k) [] h = absurd (no h)
 affix-skip q n (suc k) (b ∷ s) h = ap longer (affix-skip q n k s (omega arith)) ∙ grown-suc k (affixFrom q n 0 (drop k s))
 
 -- ---- one token more
-
-pub drop-some : (w b : ℕ) (r : List ℕ) → 1 ≤ w → drop w (b ∷ r) ≡ drop (w - 1) r
-drop-some zero b r h = absurd (no h)
-  where
-    no : 1 ≤ 0 → ⊥
-    no g = omega arith
-drop-some (suc w) b r h =
-    let e : suc w - 1 ≡ w = omega arith in
-    rw e
 
 -- the items of a text are its first token's and those behind it
 items-one : (q n : Bool) (x : List ℕ) → 0 < length x

@@ -12,7 +12,7 @@ use lib.ListN.{length, getD, take, drop, drop-of-length-le, length-drop}
 use lib.Seq.{drop-cons, take-suc, length-take-le, getD-drop}
 use Rattle.decimal.specs.Choice.{if_then_else_}
 use Rattle.decimal.proofs.Choices.{tested}
-use Rattle.numberpart.specs.Shape.{find, between, count, misplaced, seenAfter, ordered, lonely, apart, hashes, last, primaryOf, front, secondaryOf}
+use Rattle.numberpart.specs.Shape.{find, between, count, misplaced, seenAfter, ordered, badComma, apart, hashes, last, primaryOf, front, secondaryOf}
 
 -- ---- the first b
 
@@ -81,29 +81,29 @@ last-none b s n e = rw e
 
 -- ---- commas apart
 
-pub apart-more : (s : List ℕ) (i : ℕ) → i < length s → lonely (getD s i 0) (drop (i + 1) s) ≡ false → apart (drop i s) ≡ apart (drop (i + 1) s)
+pub apart-more : (s : List ℕ) (i : ℕ) → i < length s → badComma (getD s i 0) (drop (i + 1) s) ≡ false → apart (drop i s) ≡ apart (drop (i + 1) s)
 apart-more s i h e =
-    let f : lonely (getD s i 0) (drop (suc i) s) ≡ false = rw add-one at e in
+    let f : badComma (getD s i 0) (drop (suc i) s) ≡ false = rw add-one at e in
     rw (add-one, drop-cons s i 0 h, f)
 
-pub apart-end : (s : List ℕ) (i : ℕ) → i < length s → lonely (getD s i 0) (drop (i + 1) s) ≡ true → apart (drop i s) ≡ false
+pub apart-end : (s : List ℕ) (i : ℕ) → i < length s → badComma (getD s i 0) (drop (i + 1) s) ≡ true → apart (drop i s) ≡ false
 apart-end s i h e =
-    let f : lonely (getD s i 0) (drop (suc i) s) ≡ true = rw add-one at e in
+    let f : badComma (getD s i 0) (drop (suc i) s) ≡ true = rw add-one at e in
     rw (drop-cons s i 0 h, f)
 
 pub apart-out : (s : List ℕ) (i : ℕ) → length s ≤ i → apart (drop i s) ≡ true
 apart-out s i h = rw (drop-of-length-le s h)
 
-pub not-lonely : (s : List ℕ) (i : ℕ) → (getD s i 0 ≡ 44 → ⊥) → false ≡ lonely (getD s i 0) (drop (i + 1) s)
-not-lonely s i e = rw (ne-eqb _ _ e)
+pub not-bad-comma : (s : List ℕ) (i : ℕ) → (getD s i 0 ≡ 44 → ⊥) → false ≡ badComma (getD s i 0) (drop (i + 1) s)
+not-bad-comma s i e = rw (ne-eqb _ _ e)
 
-pub lonely-last : (s : List ℕ) (i : ℕ) → getD s i 0 ≡ 44 → length s ≤ i + 1 → true ≡ lonely (getD s i 0) (drop (i + 1) s)
-lonely-last s i e h =
+pub bad-comma-last : (s : List ℕ) (i : ℕ) → getD s i 0 ≡ 44 → length s ≤ i + 1 → true ≡ badComma (getD s i 0) (drop (i + 1) s)
+bad-comma-last s i e h =
     let z : length (drop (i + 1) s) ≡ 0 = omega (arith, length-drop (i + 1) s) in
     rw (eq-eqb _ _ e, eq-eqb _ _ z)
 
-pub lonely-next : (s : List ℕ) (i : ℕ) → getD s i 0 ≡ 44 → i + 1 < length s → eqb (getD s (i + 1) 0) 44 ≡ lonely (getD s i 0) (drop (i + 1) s)
-lonely-next s i e h =
+pub bad-comma-next : (s : List ℕ) (i : ℕ) → getD s i 0 ≡ 44 → i + 1 < length s → eqb (getD s (i + 1) 0) 44 ≡ badComma (getD s i 0) (drop (i + 1) s)
+bad-comma-next s i e h =
     let z : length (drop (i + 1) s) ≡ 0 → ⊥ = λ k. omega (arith, length-drop (i + 1) s) in
     rw (eq-eqb _ _ e, ne-eqb _ _ z, getD-drop, add-zero)
 

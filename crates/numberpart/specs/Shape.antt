@@ -47,12 +47,12 @@ ordered seen [] = true
 ordered seen (b ∷ s) = if misplaced seen b then false else ordered (seenAfter seen b) s
 
 -- a comma b in front of the text s: last, or adjacent to another
-abbrev pub lonely : ℕ → List ℕ → Bool
-lonely b s = if eqb b 44 then (if eqb (length s) 0 then true else eqb (getD s 0 0) 44) else false
+abbrev pub badComma : ℕ → List ℕ → Bool
+badComma b s = if eqb b 44 then (if eqb (length s) 0 then true else eqb (getD s 0 0) 44) else false
 
 abbrev pub apart : List ℕ → Bool
 apart [] = true
-apart (b ∷ s) = if lonely b s then false else apart s
+apart (b ∷ s) = if badComma b s then false else apart s
 
 abbrev pub wholeFits : List ℕ → Bool
 wholeFits s = if begins 44 s then false else if apart s then ordered false s else false

@@ -6,7 +6,7 @@ ghost use mathlib.Core.Bool.{false};
 ghost use mathlib.Core.List.{[], _∷_};
 ghost use Prim.Native.Nat.{_+_, _-_, _≤_, _<_, min};
 ghost use lib.ListN.{length, getD, drop};
-ghost use Rattle.numberpart.specs.Shape.{find, between, count, misplaced, seenAfter, ordered, lonely, apart, wholeFits, hashes, fractionFits, numberFits, last, primaryOf, secondaryOf, unit, unitsFrom, stepOf, shapeOf, stepCap, capped};
+ghost use Rattle.numberpart.specs.Shape.{find, between, count, misplaced, seenAfter, ordered, badComma, apart, wholeFits, hashes, fractionFits, numberFits, last, primaryOf, secondaryOf, unit, unitsFrom, stepOf, shapeOf, stepCap, capped};
 use decimal::cut;
 use decimal::scan;
 
@@ -104,9 +104,9 @@ fn is_ordered(s: &[u8]) -> bool
 }
 
 // Whether the comma at a place of s, if one stands there, is the last byte or adjacent to another.
-fn is_lonely(s: &[u8], at: usize) -> bool
+fn is_bad_comma(s: &[u8], at: usize) -> bool
     requires { ⌜ at < length (now s) ⌝ }
-    ensures { λ r. ⌜ r ≡ lonely (getD (now (s .entry)) at 0) (drop (at + 1) (now (s .entry))) ⌝ }
+    ensures { λ r. ⌜ r ≡ badComma (getD (now (s .entry)) at 0) (drop (at + 1) (now (s .entry))) ⌝ }
 {
     if s[at] != 44 {
         return false;
@@ -124,7 +124,7 @@ fn are_apart(s: &[u8]) -> bool
 {
     let mut i = 0;
     while i < s.len() {
-        if is_lonely(s, i) {
+        if is_bad_comma(s, i) {
             return false;
         }
         i += 1;

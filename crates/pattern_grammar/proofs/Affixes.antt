@@ -12,6 +12,7 @@ use Rattle.decimal.specs.Choice.{if_then_else_, both, either}
 use Rattle.decimal.specs.Digits.{isDigit, begins}
 use Rattle.decimal.proofs.Choices.{choice, tested, not-both}
 use Rattle.decimal.proofs.Runs.{digit-bounds}
+use Rattle.utf8.proofs.Lower.{both-true}
 use Rattle.lexer.specs.declared.Mark.the-variants.{Permille}
 use Rattle.lexer.specs.declared.Item.{Item}
 use Rattle.lexer.specs.declared.Item.the-variants.{Text, Symbol, Place, Quote, Semicolon, Reserved}
@@ -23,10 +24,6 @@ use Rattle.lexer.proofs.ItemLaws.{Fits, token-fits, grown, affix-one, affix-non
 use Rattle.pattern_grammar.specs.Grammar.{isBare, IsAffix, done, apostrophe as pair, quote, literal, bare}
 
 -- ---- bare bytes
-
-pub both-true : (x y : Bool) → both x y ≡ true → (x ≡ true) × (y ≡ true)
-both-true true y e = (refl, e)
-both-true false y e = not-both e refl
 
 -- a bare byte opens and closes no quote
 bare-kept : (n : Bool) (b : ℕ) → quotedAfter false (bareOf n b) ≡ false

@@ -11,6 +11,7 @@ use lib.ListN.{length, getD, take, drop, length-take}
 use lib.Seq.{getD-take, length-take-le}
 use Rattle.decimal.specs.Choice.{if_then_else_, both, either}
 use Rattle.decimal.proofs.Choices.{tested, not-both}
+use Rattle.utf8.proofs.Lower.{either-false}
 use Rattle.numberpart.specs.Shape.{find, wholeOf, fractionOf, between, count, digits, last, primaryOf, front, secondaryOf, unitsFrom, stepOf, numberFits, shapeOf}
 use Rattle.answer.specs.declared.PatternRow.{PatternRow}
 use Rattle.pattern.specs.Limits.{maxWhole, maxFraction, maxStep}
@@ -169,10 +170,6 @@ step-some n = tested (eqb (unitsFrom 0 n) 0) (λ k. rw k (omega arith)) (λ k. r
     positive (suc x) f = omega arith
 
 -- ---- a pattern that is read
-
-either-false : (x y : Bool) → either x y ≡ false → (x ≡ false) × (y ≡ false)
-either-false true y e = not-both refl e
-either-false false y e = (refl, e)
 
 half-bounds : (s : List ℕ) → wellFormed s ≡ true → manyPlaces (halfOf s) ≡ false → stepOver (halfOf s) ≡ false
     → Bounds (patternOf (halfOf s) (negativeOf s))

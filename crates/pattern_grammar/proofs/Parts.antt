@@ -13,7 +13,7 @@ use Rattle.decimal.specs.Choice.{if_then_else_}
 use Rattle.decimal.specs.Digits.{isDigit, begins, run, AllDigits}
 use Rattle.decimal.proofs.Choices.{tested, not-both}
 use Rattle.decimal.proofs.Runs.{digits-head, digits-cons, digits-run, run-append, run-le}
-use Rattle.numberpart.specs.Shape.{find, wholeOf, fractionOf, digits, misplaced, seenAfter, ordered, lonely, apart, wholeFits, hashes, fractionFits, numberFits}
+use Rattle.numberpart.specs.Shape.{find, wholeOf, fractionOf, digits, misplaced, seenAfter, ordered, badComma, apart, wholeFits, hashes, fractionFits, numberFits}
 use Rattle.pattern_grammar.specs.NumberPart.{dropCommas, AllHashes, IsPlaces, IsWhole, IsFraction, Sides, unpointed, pointed, IsPart}
 
 -- ---- `#` alone
@@ -152,16 +152,16 @@ some-bytes (b ∷ w) h = omega arith
 
 apart-sound : (w : List ℕ) → apart w ≡ true → (i : ℕ) → i < length w → getD w i 0 ≡ 44 → (suc i < length w) × (getD w (suc i) 0 ≡ 44 → ⊥)
 apart-sound [] e i h g = omega arith
-apart-sound (b ∷ w) e zero h g = tested (lonely b w) (λ k. not-both e (rw k)) here
+apart-sound (b ∷ w) e zero h g = tested (badComma b w) (λ k. not-both e (rw k)) here
   where
-    here : lonely b w ≡ false → (suc zero < suc (length w)) × (getD w 0 0 ≡ 44 → ⊥)
+    here : badComma b w ≡ false → (suc zero < suc (length w)) × (getD w 0 0 ≡ 44 → ⊥)
     here k =
         let l : (if eqb (length w) 0 then true else eqb (getD w 0 0) 44) ≡ false = rw (eq-eqb b 44 g) at k in
         tested (eqb (length w) 0) (λ z. not-both (rw z) l)
         (λ z.
         (omega (arith, some-bytes w (eqb-false (length w) 0 z)), eqb-false (getD w 0 0) 44 (rw z at l)))
 apart-sound (b ∷ w) e (suc i) h g =
-    tested (lonely b w) (λ k. not-both e (rw k))
+    tested (badComma b w) (λ k. not-both e (rw k))
     (λ k.
     let r = apart-sound w (rw k at e) i (omega arith) g in
     (omega (arith, r .0), r .1))
@@ -171,13 +171,13 @@ apart-complete [] f = refl
 apart-complete (b ∷ w) f =
     rw here (apart-complete w (λ i h g. (omega (arith, f (suc i) (omega arith) g .0), f (suc i) (omega arith) g .1)))
   where
-    comma : eqb b 44 ≡ true → lonely b w ≡ false
+    comma : eqb b 44 ≡ true → badComma b w ≡ false
     comma k =
         let r = f 0 (omega arith) (eqb-true b 44 k) in
         let z : length w ≡ 0 → ⊥ = λ y. omega (arith, r .0) in
         rw (k, ne-eqb (length w) 0 z, ne-eqb (getD w 0 0) 44 (r .1))
 
-    here : lonely b w ≡ false
+    here : badComma b w ≡ false
     here = tested (eqb b 44) comma (λ k. rw k)
 
 -- ---- both sides of the point

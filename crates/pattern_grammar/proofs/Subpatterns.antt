@@ -13,6 +13,7 @@ use Rattle.decimal.specs.Choice.{if_then_else_, both, either}
 use Rattle.decimal.specs.Digits.{isDigit, AllDigits}
 use Rattle.decimal.proofs.Choices.{tested, not-both}
 use Rattle.decimal.proofs.Runs.{digits-head}
+use Rattle.utf8.proofs.Lower.{both-true}
 use Rattle.lexer.specs.declared.Affix.{Affix}
 use Rattle.lexer.specs.Items.{isPlace, tokenAt, quotedAfter, isNumber}
 use Rattle.lexer.specs.Affixes.{endsAffix, longer, affixFrom, affix}
@@ -23,7 +24,7 @@ use Rattle.pattern_grammar.specs.NumberPart.{AllHashes, IsFraction, Side
 use Rattle.pattern_grammar.specs.Grammar.{isBare, IsAffix, done, apostrophe, quote, literal, bare, IsSub, IsPattern, one, two}
 use Rattle.pattern_grammar.specs.Verdict.{wellFormed}
 use Rattle.pattern_grammar.proofs.Parts.{hashes-head, whole-ordered, number-sound, number-complete}
-use Rattle.pattern_grammar.proofs.Affixes.{stops, affix-sound, affix-found, bare-parts, both-true}
+use Rattle.pattern_grammar.proofs.Affixes.{stops, affix-sound, affix-found, bare-parts}
 
 -- ---- number-part bytes
 

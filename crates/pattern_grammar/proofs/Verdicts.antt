@@ -10,6 +10,7 @@ use lib.ListN.{length, getD, drop}
 use Rattle.decimal.specs.Choice.{if_then_else_, both, either}
 use Rattle.decimal.proofs.Choices.{tested, not-both}
 use Rattle.utf8.specs.Utf8.{isUtf8}
+use Rattle.utf8.proofs.Lower.{both-true}
 use Rattle.lexer.specs.Items.{items}
 use Rattle.lexer.specs.Affixes.{anyReserved}
 use Rattle.answer.specs.declared.PatternRow.the-variants.{PatternTooLong, PatternNotUtf8, ReservedByte, NotAPattern, TooManyPlaces, StepTooLarge, PercentMismatch}
@@ -21,7 +22,6 @@ use Rattle.pattern.specs.declared.PatternReading.the-variants.{Is}
 use Rattle.pattern.specs.Reading.{halfOf, endOf, fits, manyPlaces, stepOver, manyMarks, sameMarks, patternOf, judgedMarks, judged, ownAffixes, withSecond, halves, readPattern, refuse}
 use Rattle.pattern_grammar.specs.Grammar.{IsPattern}
 use Rattle.pattern_grammar.specs.Verdict.{wellFormed, secondHalf, negativeOf, inEither, Plain, Verdict, too-long, not-utf8, reserved, not-a-pattern, many-places, large-step, many-marks, other-marks, read}
-use Rattle.pattern_grammar.proofs.Affixes.{both-true}
 use Rattle.pattern_grammar.proofs.Subpatterns.{pattern-sound, pattern-complete}
 
 -- ---- the subpatterns of a text that is well formed, and of one that is not

@@ -2,6 +2,9 @@
 // part and suffix, least integer digits, least and most fraction digits, both group sizes, step and
 // factor, and start and length of the negative subpattern's affixes where it has one; or `!` and the
 // number of its refusal.
+//
+// The input holds, besides rows of our own, the patterns of Unicode CLDR 41 (Unicode, Inc. License
+// Agreement for Data Files and Software, (c) 1991-2022 Unicode, Inc.).
 ghost use Prim.Native.Nat.{_≤_};
 ghost use lib.ListN.{length};
 use decimal::cut;

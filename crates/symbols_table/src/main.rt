@@ -1,5 +1,8 @@
 // Reads symbol records, one a line, and prints for each `good`, or `!` and the number of its
 // refusal, and then the bytes of the bodies that the finder gives for the six symbols.
+//
+// The input holds, besides rows of our own, the symbol records of Unicode CLDR 41 (Unicode, Inc. License
+// Agreement for Data Files and Software, (c) 1991-2022 Unicode, Inc.).
 ghost use Prim.Native.Nat.{_≤_};
 ghost use lib.ListN.{length};
 use decimal::cut;

@@ -11,6 +11,7 @@ use lib.ListN.{length, getD, drop, drop-of-length-le, length-drop}
 use lib.Seq.{drop-cons, drop-drop}
 use Rattle.decimal.specs.Choice.{if_then_else_}
 use Rattle.utf8.specs.Utf8.{continues, charLen, utf8From, isUtf8}
+use Rattle.utf8.proofs.Lower.{drop-some}
 
 -- ---- bytes from 80 to BF
 
@@ -27,15 +28,6 @@ pub continues-out : (s : List ℕ) (i : ℕ) → length s ≤ i → continues (d
 continues-out s i h = rw (drop-of-length-le s h)
 
 -- ---- code points one after the other
-
-pub drop-some : (w b : ℕ) (r : List ℕ) → 1 ≤ w → drop w (b ∷ r) ≡ drop (w - 1) r
-drop-some zero b r h = absurd (no h)
-  where
-    no : 1 ≤ 0 → ⊥
-    no g = omega arith
-drop-some (suc w) b r h =
-    let e : suc w - 1 ≡ w = omega arith in
-    rw e
 
 -- bytes of the code point before are skipped
 utf8-skip : (k : ℕ) (s : List ℕ) → utf8From k s ≡ utf8From 0 (drop k s)

@@ -12,6 +12,7 @@ use Rattle.decimal.specs.Choice.{if_then_else_, both}
 use Rattle.decimal.proofs.Choices.{tested, not-both}
 use Rattle.utf8.specs.Utf8.{charBytes, lowSecond, highSecond, continues, restFits, charLen, utf8From, isUtf8}
 use Rattle.utf8.specs.Scalar.{isScalar, spell, spellAll, allScalar, Begins, IsText}
+use Rattle.utf8.proofs.Lower.{both-true}
 use Rattle.utf8.proofs.Laws.{utf8-one, utf8-none}
 
 -- ---- the rows of the table: first and second byte, and those behind them
@@ -43,8 +44,16 @@ three-bytes b c d r n l h p q =
 four-bytes : (b c d e : ℕ) (r : List ℕ) → charBytes b ≡ 4 → lowSecond b ≤ c → c ≤ highSecond b → 0x80 ≤ d → d ≤ 0xBF → 0x80 ≤ e → e ≤ 0xBF
     → charLen (b ∷ c ∷ d ∷ e ∷ r) ≡ 4
 four-bytes b c d e r n l h p q v w =
-    rw (n, le-ltb (suc (suc (suc (suc (length r))))) 4 (omega arith), le-ltb c (lowSecond b) l, le-ltb (highSecond b) c h,
-    le-ltb d 0x80 p, le-ltb 0xBF d q, le-ltb e 0x80 v, le-ltb 0xBF e w)
+    rw (
+      n,
+      le-ltb (suc (suc (suc (suc (length r))))) 4 (omega arith),
+      le-ltb c (lowSecond b) l,
+      le-ltb (highSecond b) c h,
+      le-ltb d 0x80 p,
+      le-ltb 0xBF d q,
+      le-ltb e 0x80 v,
+      le-ltb 0xBF e w,
+    )
 
 -- ---- the second byte's bounds, by the first
 
@@ -159,7 +168,7 @@ spell-three x b c d h k l m p q e =
     let c-least : 0x80 ≤ c = omega (arith, s .least) in
     let c-most : c ≤ 0xBF = omega (arith, s .most) in
     let long : 0x800 ≤ x =
-        tested (eqb b 0xE0) (λ y. omega (arith, s .long-three (eqb-true b 0xE0 y), eqb-true b 0xE0 y)) (λ y. above y) in
+    tested (eqb b 0xE0) (λ y. omega (arith, s .long-three (eqb-true b 0xE0 y), eqb-true b 0xE0 y)) (λ y. above y) in
     let u : 0xE0 + x / 4096 ≡ b = omega arith in
     let v : 0x80 + x / 64 % 64 ≡ c = omega arith in
     let w : 0x80 + x % 64 ≡ d = omega arith in
@@ -191,16 +200,17 @@ spell-four x b c d f h k l m p q i j e =
     let c-least : 0x80 ≤ c = omega (arith, s .least) in
     let c-most : c ≤ 0xBF = omega (arith, s .most) in
     let long : 0x10000 ≤ x =
-        tested (eqb b 0xF0) (λ y. omega (arith, s .long-four (eqb-true b 0xF0 y), eqb-true b 0xF0 y))
-        (λ y. more b (eqb-false b 0xF0 y) h e) in
+    tested (eqb b 0xF0) (λ y. omega (arith, s .long-four (eqb-true b 0xF0 y), eqb-true b 0xF0 y))
+    (λ y. more b (eqb-false b 0xF0 y) h e) in
     let below : x < 0x110000 =
-        tested (eqb b 0xF4) (λ y. omega (arith, s .end (eqb-true b 0xF4 y), eqb-true b 0xF4 y)) (λ y. less b (eqb-false b 0xF4 y) k c-most e) in
+    tested (eqb b 0xF4) (λ y. omega (arith, s .end (eqb-true b 0xF4 y), eqb-true b 0xF4 y)) (λ y. less b (eqb-false b 0xF4 y) k c-most e) in
     let t : 0xF0 + x / 262144 ≡ b = omega arith in
     let u : 0x80 + x / 4096 % 64 ≡ c = omega arith in
     let v : 0x80 + x / 64 % 64 ≡ d = omega arith in
-    let w : 0x80 + x % 64 ≡ f = omega arith in
-    (rw (le-ltb x 0xD800 (omega arith), lt-ltb 0xDFFF x (omega arith), lt-ltb x 0x110000 below),
-    rw (le-ltb x 0x80 (omega arith), le-ltb x 0x800 (omega arith), le-ltb x 0x10000 long, t, u, v, w))
+    let w : 0x80 + x % 64 ≡ f = omega arith in (
+      rw (le-ltb x 0xD800 (omega arith), lt-ltb 0xDFFF x (omega arith), lt-ltb x 0x110000 below),
+      rw (le-ltb x 0x80 (omega arith), le-ltb x 0x800 (omega arith), le-ltb x 0x10000 long, t, u, v, w),
+    )
   where
     more : (b : ℕ) → (b ≡ 0xF0 → ⊥) → 0xF0 ≤ b → x ≡ (b - 0xF0) * 262144 + (c - 0x80) * 4096 + (d - 0x80) * 64 + (f - 0x80) → 0x10000 ≤ x
     more b n h e = tested (ltb 0xF0 b) (λ z. omega (arith, ltb-true 0xF0 b z)) (λ z. absurd (n (omega (arith, ltb-false 0xF0 b z))))
@@ -317,15 +327,11 @@ text-length x r = positive (length (spell x)) (spell-some x) (length-append (spe
 pub utf8-complete : (xs : List ℕ) → allScalar xs ≡ true → isUtf8 (spellAll xs) ≡ true
 utf8-complete [] e = refl
 utf8-complete (x ∷ xs) e =
-    let p = parts (isScalar x) (allScalar xs) e in
+    let p = both-true (isScalar x) (allScalar xs) e in
     let r = spellAll xs in
     let c = char-complete x r (p .0) in
     let d : drop (charLen (spell x ++ r)) (spell x ++ r) ≡ r = rw c (drop-at (spell x) r (length (spell x)) refl) in
     utf8-one (spell x ++ r) (text-length x r) (λ z. spell-some x (sym c ∙ z)) ∙ (ap isUtf8 d ∙ utf8-complete xs (p .1))
-  where
-    parts : (a b : Bool) → both a b ≡ true → (a ≡ true) × (b ≡ true)
-    parts true b e = (refl, e)
-    parts false b e = not-both e refl
 
 behind-char : (s : List ℕ) (n : ℕ) (w : Begins s n) → drop n s ≡ w .behind
 behind-char s n w = ap (drop n) (w .text) ∙ drop-at (spell (w .char)) (w .behind) n (w .size)

@@ -18,11 +18,11 @@ abbrev μ-loop : tie.MeasureT-loop
 loop-holds : tie.Need-loop-holds Inv-loop μ-loop
 loop-holds c = (search needs, refl)
 
-is-lonely-requires : tie.Need-is-lonely-requires Inv-loop μ-loop
-is-lonely-requires c κs = search needs
+is-bad-comma-requires : tie.Need-is-bad-comma-requires Inv-loop μ-loop
+is-bad-comma-requires c κs = search needs
 
 returns : tie.Need-returns Inv-loop μ-loop
-returns c = sym (apart-end (c .before .before .before .before .before .args .s .now) (c .before .before .before .loop .i) (c .before .before .loop-test .taken) (sym (c .before .is-lonely .ensures) ∙ c .if1 .taken)) ∙ c .before .before .before .loop .inv .1
+returns c = sym (apart-end (c .before .before .before .before .before .args .s .now) (c .before .before .before .loop .i) (c .before .before .loop-test .taken) (sym (c .before .is-bad-comma .ensures) ∙ c .if1 .taken)) ∙ c .before .before .before .loop .inv .1
 
 add-i : tie.Need-add-i Inv-loop μ-loop
 add-i c = search needs
@@ -32,7 +32,7 @@ loop-less c = search needs
 
 loop-again : tie.Need-loop-again Inv-loop μ-loop
 loop-again c =
-    (omega arith, sym (apart-more (c .before .before .before .before .before .args .s .now) (c .before .before .before .loop .i) (c .before .before .loop-test .taken) (sym (c .before .is-lonely .ensures) ∙ c .if1 .left)) ∙ c .before .before .before .loop .inv .1)
+    (omega arith, sym (apart-more (c .before .before .before .before .before .args .s .now) (c .before .before .before .loop .i) (c .before .before .loop-test .taken) (sym (c .before .is-bad-comma .ensures) ∙ c .if1 .left)) ∙ c .before .before .before .loop .inv .1)
 
 returns-2 : tie.Need-returns-2 Inv-loop μ-loop
 returns-2 c = sym (apart-out (c .before .before .before .args .s .now) (c .before .loop .i) (c .loop-test .left)) ∙ c .before .loop .inv .1
@@ -44,7 +44,7 @@ are-apart-spec =
     Inv-loop
     μ-loop
     loop-holds
-    is-lonely-requires
+    is-bad-comma-requires
     returns
     add-i
     loop-less
