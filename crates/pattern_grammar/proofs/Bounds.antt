@@ -13,7 +13,6 @@ use Rattle.decimal.specs.Choice.{if_then_else_, both, either}
 use Rattle.decimal.proofs.Choices.{tested, not-both}
 use Rattle.utf8.proofs.Lower.{either-false}
 use Rattle.numberpart.specs.Shape.{find, wholeOf, fractionOf, between, count, digits, last, primaryOf, front, secondaryOf, unitsFrom, stepOf, numberFits, shapeOf}
-use Rattle.answer.specs.declared.PatternRow.{PatternRow}
 use Rattle.pattern.specs.Limits.{maxWhole, maxFraction, maxStep}
 use Rattle.pattern.specs.declared.Half.{Half}
 use Rattle.pattern.specs.declared.Pattern.{Pattern}
@@ -26,7 +25,7 @@ use Rattle.pattern_grammar.specs.Bounds.{Bounds}
 use Rattle.pattern_grammar.specs.Verdict.{wellFormed, secondHalf, negativeOf, inEither, Plain, Verdict, too-long, not-utf8, reserved, not-a-pattern, many-places, large-step, many-marks, other-marks, read}
 use Rattle.pattern_grammar.proofs.Parts.{whole-sound, number-sound, number-whole}
 use Rattle.pattern_grammar.proofs.Subpatterns.{pattern-complete, first-fits}
-use Rattle.pattern_grammar.proofs.Verdicts.{verdict-found}
+use Rattle.pattern_grammar.proofs.Verdicts.{verdict-found, not-read}
 
 -- ---- counts
 
@@ -189,14 +188,6 @@ half-bounds s f m o =
       secondary-most = omega (arith, secondary-places w, places);
       secondary-least = secondary-some w p;
     }
-
-not-read : {A : Type 0} (row : PatternRow) (p : Pattern) → refuse row ≡ Is p → A
-not-read row p e = absurd (no e)
-  where
-    no : refuse row ≡ Is p → ⊥
-    no g =
-        let z : _≡_ {A = ℕ} 0 1 = cc in
-        omega arith
 
 verdict-bounds : (s : List ℕ) {r : PatternReading} → Verdict s r → (p : Pattern) → r ≡ Is p → Bounds p
 verdict-bounds s (too-long h) p e = not-read _ p e

@@ -260,6 +260,13 @@ pattern-sound s e = tested (eqb (endOf (halfOf s)) (length s)) alone other
         (λ l. not-both e (rw (k, g, l))))
         (λ g. not-both e (rw (k, g)))
 
+-- what stands behind the semicolon
+pub second-text : (a b : List ℕ) → drop (length a + 1) (a ++ (59 ∷ b)) ≡ b
+second-text [] b = refl
+second-text (c ∷ a) b =
+    let e : suc (length a) + 1 ≡ suc (length a + 1) = omega arith in
+    rw e (second-text a b)
+
 pub pattern-complete : {s : List ℕ} → IsPattern s → wellFormed s ≡ true
 pattern-complete (one {s} w) =
     let e : endOf (halfOf s) ≡ length s = ap (λ (l : List ℕ). endOf (halfOf l)) (sym (append-nil s)) ∙ read-end s [] w refl in
@@ -283,7 +290,7 @@ pattern-complete (two {a} {b} w v) =
         else false)
         else false) ≡ true
     second a b at i f e h n =
-        let d : drop (at + 1) (a ++ (59 ∷ b)) ≡ b = rw i (past a b) in
+        let d : drop (at + 1) (a ++ (59 ∷ b)) ≡ b = rw i (second-text a b) in
         let g : getD (a ++ (59 ∷ b)) at 0 ≡ 59 = rw i (getD-append-seam a 59 b 0) in
         rw (
           ne-eqb at (length (a ++ (59 ∷ b))) (λ y. omega arith),
@@ -292,12 +299,6 @@ pattern-complete (two {a} {b} w v) =
           eq-eqb (at + 1 + endOf (halfOf b)) (length (a ++ (59 ∷ b))) (omega arith),
           f,
         ) h
-      where
-        past : (a b : List ℕ) → drop (length a + 1) (a ++ (59 ∷ b)) ≡ b
-        past [] b = refl
-        past (c ∷ a) b =
-            let e : suc (length a) + 1 ≡ suc (length a + 1) = omega arith in
-            rw e (past a b)
 
 -- the first subpattern of a pattern has a number part
 pub first-fits : (s : List ℕ) → wellFormed s ≡ true → numberFits (numberOf s) ≡ true

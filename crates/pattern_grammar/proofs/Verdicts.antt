@@ -13,10 +13,12 @@ use Rattle.utf8.specs.Utf8.{isUtf8}
 use Rattle.utf8.proofs.Lower.{both-true}
 use Rattle.lexer.specs.Items.{items}
 use Rattle.lexer.specs.Affixes.{anyReserved}
+use Rattle.answer.specs.declared.PatternRow.{PatternRow}
 use Rattle.answer.specs.declared.PatternRow.the-variants.{PatternTooLong, PatternNotUtf8, ReservedByte, NotAPattern, TooManyPlaces, StepTooLarge, PercentMismatch}
 use Rattle.pattern.specs.Limits.{maxBytes}
 use Rattle.pattern.specs.declared.Half.{Half}
 use Rattle.pattern.specs.declared.Negative.{Negative}
+use Rattle.pattern.specs.declared.Pattern.{Pattern}
 use Rattle.pattern.specs.declared.PatternReading.{PatternReading}
 use Rattle.pattern.specs.declared.PatternReading.the-variants.{Is}
 use Rattle.pattern.specs.Reading.{halfOf, endOf, fits, manyPlaces, stepOver, manyMarks, sameMarks, patternOf, judgedMarks, judged, ownAffixes, withSecond, halves, readPattern, refuse}
@@ -156,3 +158,12 @@ verdict-found s = tested (ltb maxBytes (length s)) (λ k. made (too-long (ltb-tr
         tested (anyReserved (items s)) (λ a. made (reserved h u a))
         (λ a. formed (record { short = h; utf8 = u; unreserved = a })))
         (λ u. made (not-utf8 h u))
+
+-- a refusal is not a pattern that is read
+pub not-read : {A : Type 0} (row : PatternRow) (p : Pattern) → refuse row ≡ Is p → A
+not-read row p e = absurd (no e)
+  where
+    no : refuse row ≡ Is p → ⊥
+    no g =
+        let z : _≡_ {A = ℕ} 0 1 = cc in
+        omega arith
