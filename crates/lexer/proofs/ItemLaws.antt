@@ -9,12 +9,11 @@ use borrow.Author.Tests.{eq-eqb, ne-eqb}
 use lib.Dec.{eqb}
 use lib.ListN.{length, getD, drop, drop-of-length-le, length-drop}
 use lib.Seq.{drop-cons, drop-drop}
-use Rattle.decimal.specs.Choice.{if_then_else_, both}
 use Rattle.decimal.proofs.Choices.{choice, tested, not-both}
 use Rattle.lexer.specs.declared.Mark.{Mark}
 use Rattle.lexer.specs.declared.Mark.the-variants.{Permille}
 use Rattle.lexer.specs.declared.Item.{Item}
-use Rattle.lexer.specs.declared.Item.the-variants.{Text, Symbol, Place, Quote, Semicolon, Reserved}
+use Rattle.lexer.specs.declared.Item.the-variants.{Text, Symbol, Quote, Reserved}
 use Rattle.lexer.specs.declared.Token.{Token}
 use Rattle.lexer.specs.declared.Affix.{Affix}
 use Rattle.lexer.specs.Items.{starts, apostrophe, permille, currency, bareOf, tokenAt, token, quotedAfter, isNumber, itemsFrom, items}

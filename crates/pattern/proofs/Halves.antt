@@ -1,27 +1,23 @@
 -- Laws of subpatterns: the run of number-part bytes, and the table with the step kept at its bound.
-use mathlib.Core.Path.{_≡_, refl, sym, ap, ap₂, _∙_}
-use mathlib.Core.Bool.{Bool, true, false}
-use mathlib.Core.List.{List, [], _∷_}
-use Prim.Native.Nat.{ℕ, zero, suc, _+_, _-_, _≤_, _<_, min}
+use mathlib.Core.Path.{_≡_, ap, ap₂, _∙_}
+use mathlib.Core.Bool.{true, false}
+use mathlib.Core.List.{List}
+use Prim.Native.Nat.{ℕ, _+_, _-_, _≤_, _<_, min}
 use native.Mathlib.Omega.{arith}
 use native.Mathlib.Numerals.{add-one}
 use borrow.Author.Tests.{eq-eqb, ne-eqb, ltb-false}
-use lib.Dec.{ltb}
-use lib.ListN.{length, getD, take, drop, drop-of-length-le, length-drop}
+use lib.ListN.{length, getD, drop, drop-of-length-le}
 use lib.Seq.{drop-cons}
-use Rattle.decimal.specs.Choice.{if_then_else_, both, either}
+use Rattle.decimal.specs.Choice.{either}
 use Rattle.decimal.proofs.Choices.{tested, not-both, ltb-same}
 use Rattle.lexer.specs.Items.{isPlace}
-use Rattle.numberpart.specs.declared.Shape.{Shape}
-use Rattle.numberpart.specs.Shape.{capped, stepCap}
+use Rattle.numberpart.specs.Shape.{stepCap}
 use Rattle.pattern.specs.Limits.{maxStep}
 use Rattle.answer.specs.declared.PatternRow.the-variants.{NotAPattern}
 use Rattle.pattern.specs.declared.Negative.{Negative}
 use Rattle.pattern.specs.declared.Negative.the-variants.{MinusSymbol}
 use Rattle.pattern.specs.declared.Half.{Half}
-use Rattle.pattern.specs.declared.Pattern.{Pattern}
-use Rattle.pattern.specs.declared.PatternReading.{PatternReading}
-use Rattle.pattern.specs.Reading.{places, fits, manyPlaces, stepOver, manyMarks, sameMarks, patternOf, judgedMarks, judged, ownAffixes, halfOf, endOf, refuse, halves, cappedHalf}
+use Rattle.pattern.specs.Reading.{places, stepOver, judged, ownAffixes, halfOf, endOf, refuse, halves, cappedHalf}
 
 -- ---- number-part bytes at the front
 

@@ -1,7 +1,7 @@
 -- Document 01, "The pattern": what is read of a pattern, and refusals 30 to 36 in the order of the table.
-use mathlib.Core.Bool.{Bool, true, false, not}
+use mathlib.Core.Bool.{Bool}
 use mathlib.Core.List.{List, [], _∷_}
-use Prim.Native.Nat.{ℕ, zero, suc, _+_}
+use Prim.Native.Nat.{ℕ, suc, _+_}
 use lib.Dec.{ltb, eqb}
 use lib.ListN.{length, getD, take, drop}
 use Rattle.decimal.specs.Choice.{if_then_else_, both, either}
@@ -11,7 +11,6 @@ use Rattle.lexer.specs.declared.Mark.{Mark}
 use Rattle.lexer.specs.declared.Mark.the-variants.{Percent, Permille}
 use Rattle.lexer.specs.Items.{isPlace, items}
 use Rattle.lexer.specs.Affixes.{affix, anyReserved, marks}
-use Rattle.numberpart.specs.declared.Shape.{Shape}
 use Rattle.numberpart.specs.Shape.{shapeOf, capped}
 use Rattle.answer.specs.declared.PatternRow.{PatternRow}
 use Rattle.answer.specs.declared.PatternRow.the-variants.{PatternTooLong, PatternNotUtf8, ReservedByte, NotAPattern, TooManyPlaces, StepTooLarge, PercentMismatch}

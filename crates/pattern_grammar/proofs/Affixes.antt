@@ -4,7 +4,7 @@ use mathlib.Core.Bool.{Bool, true, false, not}
 use mathlib.Core.List.{List, [], _∷_, _++_}
 use Prim.Native.Nat.{ℕ, zero, suc, _+_, _-_, _≤_, _<_}
 use native.Mathlib.Omega.{arith}
-use borrow.Author.Tests.{eq-eqb, ne-eqb, eqb-true, eqb-false, lt-ltb, ltb-true, ltb-false}
+use borrow.Author.Tests.{ne-eqb, eqb-true, lt-ltb}
 use lib.Dec.{eqb, ltb}
 use lib.ListN.{length, getD, take, drop, length-drop}
 use lib.Seq.{take-add}
@@ -15,12 +15,12 @@ use Rattle.decimal.proofs.Runs.{digit-bounds}
 use Rattle.utf8.proofs.Lower.{both-true}
 use Rattle.lexer.specs.declared.Mark.the-variants.{Permille}
 use Rattle.lexer.specs.declared.Item.{Item}
-use Rattle.lexer.specs.declared.Item.the-variants.{Text, Symbol, Place, Quote, Semicolon, Reserved}
+use Rattle.lexer.specs.declared.Item.the-variants.{Text, Symbol, Reserved}
 use Rattle.lexer.specs.declared.Token.{Token}
 use Rattle.lexer.specs.declared.Affix.{Affix}
 use Rattle.lexer.specs.Items.{starts, apostrophe, permille, currency, isPlace, isReserved, bareOf, token, tokenAt, quotedAfter, isNumber}
 use Rattle.lexer.specs.Affixes.{endsAffix, longer, affixFrom, affix}
-use Rattle.lexer.proofs.ItemLaws.{Fits, token-fits, grown, affix-one, affix-none}
+use Rattle.lexer.proofs.ItemLaws.{token-fits, grown, affix-one, affix-none}
 use Rattle.pattern_grammar.specs.Grammar.{isBare, IsAffix, done, apostrophe as pair, quote, literal, bare}
 
 -- ---- bare bytes

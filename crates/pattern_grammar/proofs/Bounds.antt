@@ -1,29 +1,26 @@
 -- What is read of a pattern keeps its bounds: step, digits and group sizes.
-use mathlib.Core.Path.{_≡_, refl, sym, ap, subst, _∙_}
-use mathlib.Core.Bool.{Bool, true, false}
-use mathlib.Core.List.{List, [], _∷_, _++_}
+use mathlib.Core.Path.{_≡_, refl, sym, subst, _∙_}
+use mathlib.Core.Bool.{true, false}
+use mathlib.Core.List.{List, [], _∷_}
 use Prim.Native.Nat.{ℕ, zero, suc, _+_, _-_, _≤_, _<_}
 use native.Mathlib.Omega.{arith}
-use native.Mathlib.Nat.{add-zero}
-use borrow.Author.Tests.{eq-eqb, ne-eqb, eqb-true, eqb-false, lt-ltb, ltb-true, ltb-false}
+use borrow.Author.Tests.{eqb-true, eqb-false, ltb-true, ltb-false}
 use lib.Dec.{eqb, ltb}
-use lib.ListN.{length, getD, take, drop, length-take}
+use lib.ListN.{length, getD, take}
 use lib.Seq.{getD-take, length-take-le}
-use Rattle.decimal.specs.Choice.{if_then_else_, both, either}
+use Rattle.decimal.specs.Choice.{both}
 use Rattle.decimal.proofs.Choices.{tested, not-both}
 use Rattle.utf8.proofs.Lower.{either-false}
-use Rattle.numberpart.specs.Shape.{find, wholeOf, fractionOf, between, count, digits, last, primaryOf, front, secondaryOf, unitsFrom, stepOf, numberFits, shapeOf}
+use Rattle.numberpart.specs.Shape.{wholeOf, fractionOf, between, count, digits, last, primaryOf, front, secondaryOf, unitsFrom, stepOf}
 use Rattle.pattern.specs.Limits.{maxWhole, maxFraction, maxStep}
-use Rattle.pattern.specs.declared.Half.{Half}
 use Rattle.pattern.specs.declared.Pattern.{Pattern}
 use Rattle.pattern.specs.declared.PatternReading.{PatternReading}
-use Rattle.pattern.specs.declared.PatternReading.the-variants.{Is, Refused}
-use Rattle.pattern.specs.Reading.{halfOf, manyPlaces, stepOver, numberOf, patternOf, factorOf, readPattern, refuse}
-use Rattle.pattern_grammar.specs.NumberPart.{IsWhole, IsPart}
-use Rattle.pattern_grammar.specs.Grammar.{IsPattern}
+use Rattle.pattern.specs.declared.PatternReading.the-variants.{Is}
+use Rattle.pattern.specs.Reading.{halfOf, manyPlaces, stepOver, numberOf, patternOf, readPattern}
+use Rattle.pattern_grammar.specs.NumberPart.{IsWhole}
 use Rattle.pattern_grammar.specs.Bounds.{Bounds}
-use Rattle.pattern_grammar.specs.Verdict.{wellFormed, secondHalf, negativeOf, inEither, Plain, Verdict, too-long, not-utf8, reserved, not-a-pattern, many-places, large-step, many-marks, other-marks, read}
-use Rattle.pattern_grammar.proofs.Parts.{whole-sound, number-sound, number-whole}
+use Rattle.pattern_grammar.specs.Verdict.{wellFormed, secondHalf, negativeOf, Verdict, too-long, not-utf8, reserved, not-a-pattern, many-places, large-step, many-marks, other-marks, read}
+use Rattle.pattern_grammar.proofs.Parts.{whole-sound, number-whole}
 use Rattle.pattern_grammar.proofs.Subpatterns.{pattern-complete, first-fits}
 use Rattle.pattern_grammar.proofs.Verdicts.{verdict-found, not-read}
 

@@ -2,26 +2,25 @@
 use mathlib.Core.Path.{_≡_, refl, sym, ap, subst, _∙_}
 use mathlib.Core.Bool.{Bool, true, false, not}
 use mathlib.Core.List.{List, [], _∷_, _++_, append-nil, append-assoc}
-use Prim.Native.Nat.{ℕ, zero, suc, _+_, _-_, _≤_, _<_}
+use Prim.Native.Nat.{ℕ, zero, suc, _+_, _-_, _<_}
 use native.Mathlib.Omega.{arith}
 use native.Mathlib.Numerals.{add-one}
-use borrow.Author.Tests.{eq-eqb, ne-eqb, eqb-true, eqb-false, lt-ltb, ltb-true}
-use lib.Dec.{eqb, ltb}
-use lib.ListN.{length, getD, take, drop, take-append-drop, length-append, length-drop, drop-of-length-le}
-use lib.Seq.{take-add, take-at, drop-at, drop-drop, take-length, drop-length, drop-cons, take-all, getD-append-seam}
-use Rattle.decimal.specs.Choice.{if_then_else_, both, either}
+use borrow.Author.Tests.{eq-eqb, ne-eqb, eqb-true}
+use lib.Dec.{eqb}
+use lib.ListN.{length, getD, take, drop, take-append-drop, length-append, length-drop}
+use lib.Seq.{take-add, take-at, drop-at, drop-drop, take-length, drop-length, drop-cons, getD-append-seam}
+use Rattle.decimal.specs.Choice.{if_then_else_, both}
 use Rattle.decimal.specs.Digits.{isDigit, AllDigits}
 use Rattle.decimal.proofs.Choices.{tested, not-both}
 use Rattle.decimal.proofs.Runs.{digits-head}
 use Rattle.utf8.proofs.Lower.{both-true}
 use Rattle.lexer.specs.declared.Affix.{Affix}
 use Rattle.lexer.specs.Items.{isPlace, tokenAt, quotedAfter, isNumber}
-use Rattle.lexer.specs.Affixes.{endsAffix, longer, affixFrom, affix}
+use Rattle.lexer.specs.Affixes.{endsAffix, affixFrom, affix}
 use Rattle.numberpart.specs.Shape.{digits, misplaced, seenAfter, ordered, numberFits}
-use Rattle.pattern.specs.declared.Half.{Half}
 use Rattle.pattern.specs.Reading.{places, prefixLen, numberLen, behind, suffixAffix, prefixOf, numberOf, suffixOf, halfOf, endOf, fits}
 use Rattle.pattern_grammar.specs.NumberPart.{AllHashes, IsFraction, Sides, unpointed, pointed, IsPart}
-use Rattle.pattern_grammar.specs.Grammar.{isBare, IsAffix, done, apostrophe, quote, literal, bare, IsSub, IsPattern, one, two}
+use Rattle.pattern_grammar.specs.Grammar.{IsAffix, done, apostrophe, quote, bare, IsSub, IsPattern, one, two}
 use Rattle.pattern_grammar.specs.Verdict.{wellFormed}
 use Rattle.pattern_grammar.proofs.Parts.{hashes-head, whole-ordered, number-sound, number-complete}
 use Rattle.pattern_grammar.proofs.Affixes.{stops, affix-sound, affix-found, bare-parts}

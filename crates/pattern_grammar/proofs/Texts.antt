@@ -1,29 +1,24 @@
 -- A pattern that is read has its parts where the grammar has them; of a negative subpattern only the affixes are used.
 use mathlib.Core.Path.{_≡_, refl, sym, ap, subst, _∙_}
-use mathlib.Core.Bool.{Bool, true, false}
+use mathlib.Core.Bool.{true}
 use mathlib.Core.List.{List, [], _∷_, _++_, append-nil, append-assoc}
-use Prim.Native.Nat.{ℕ, zero, suc, _+_, _-_, _≤_, _<_}
+use Prim.Native.Nat.{ℕ, _+_, _-_}
 use native.Mathlib.Omega.{arith}
 use borrow.Author.Tests.{eq-eqb, ne-eqb}
-use lib.Dec.{eqb}
-use lib.ListN.{length, getD, take, drop, length-append}
-use lib.Seq.{take-at, drop-at, drop-drop, take-length}
-use Rattle.decimal.specs.Choice.{if_then_else_}
+use lib.ListN.{length, take, drop, length-append}
+use lib.Seq.{take-at, drop-at, drop-drop}
 use Rattle.lexer.specs.declared.Affix.{Affix}
-use Rattle.numberpart.specs.declared.Shape.{Shape}
 use Rattle.numberpart.specs.Shape.{shapeOf}
-use Rattle.pattern.specs.declared.Span.{Span}
-use Rattle.pattern.specs.declared.Half.{Half}
 use Rattle.pattern.specs.declared.Negative.{Negative}
-use Rattle.pattern.specs.declared.Negative.the-variants.{MinusSymbol, Own}
+use Rattle.pattern.specs.declared.Negative.the-variants.{MinusSymbol}
 use Rattle.pattern.specs.declared.Pattern.{Pattern}
 use Rattle.pattern.specs.declared.PatternReading.{PatternReading}
-use Rattle.pattern.specs.declared.PatternReading.the-variants.{Is, Refused}
-use Rattle.pattern.specs.Reading.{prefixLen, numberLen, behind, suffixAffix, prefixOf, numberOf, suffixOf, halfOf, endOf, span, patternOf, ownAffixes, readPattern, refuse}
+use Rattle.pattern.specs.declared.PatternReading.the-variants.{Is}
+use Rattle.pattern.specs.Reading.{prefixLen, numberLen, behind, suffixAffix, prefixOf, numberOf, suffixOf, halfOf, endOf, span, patternOf, ownAffixes, readPattern}
 use Rattle.pattern_grammar.specs.Grammar.{IsSub}
 use Rattle.pattern_grammar.specs.Verdict.{negativeOf, Verdict, too-long, not-utf8, reserved, not-a-pattern, many-places, large-step, many-marks, other-marks, read}
-use Rattle.pattern_grammar.specs.Texts.{textAt, Parts, Affixes}
-use Rattle.pattern_grammar.proofs.Subpatterns.{ends, Read, read-sub, read-end, second-text}
+use Rattle.pattern_grammar.specs.Texts.{Parts, Affixes}
+use Rattle.pattern_grammar.proofs.Subpatterns.{ends, read-sub, read-end, second-text}
 use Rattle.pattern_grammar.proofs.Verdicts.{verdict-found, not-read}
 
 -- what is read is the first subpattern with its negative affixes

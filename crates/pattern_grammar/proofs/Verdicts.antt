@@ -1,8 +1,8 @@
 -- Rows 30 to 36: a pattern gets the one answer that the table gives it.
-use mathlib.Core.Path.{_≡_, refl, sym, ap, subst, _∙_}
-use mathlib.Core.Bool.{Bool, true, false}
+use mathlib.Core.Path.{_≡_, sym, subst, _∙_}
+use mathlib.Core.Bool.{true, false}
 use mathlib.Core.List.{List}
-use Prim.Native.Nat.{ℕ, _+_, _≤_, _<_}
+use Prim.Native.Nat.{ℕ, _+_}
 use native.Mathlib.Omega.{arith}
 use borrow.Author.Tests.{lt-ltb, le-ltb, ltb-true, ltb-false}
 use lib.Dec.{eqb, ltb}
@@ -10,18 +10,17 @@ use lib.ListN.{length, getD, drop}
 use Rattle.decimal.specs.Choice.{if_then_else_, both, either}
 use Rattle.decimal.proofs.Choices.{tested, not-both}
 use Rattle.utf8.specs.Utf8.{isUtf8}
-use Rattle.utf8.proofs.Lower.{both-true}
 use Rattle.lexer.specs.Items.{items}
 use Rattle.lexer.specs.Affixes.{anyReserved}
 use Rattle.answer.specs.declared.PatternRow.{PatternRow}
-use Rattle.answer.specs.declared.PatternRow.the-variants.{PatternTooLong, PatternNotUtf8, ReservedByte, NotAPattern, TooManyPlaces, StepTooLarge, PercentMismatch}
+use Rattle.answer.specs.declared.PatternRow.the-variants.{NotAPattern, TooManyPlaces, StepTooLarge, PercentMismatch}
 use Rattle.pattern.specs.Limits.{maxBytes}
 use Rattle.pattern.specs.declared.Half.{Half}
 use Rattle.pattern.specs.declared.Negative.{Negative}
 use Rattle.pattern.specs.declared.Pattern.{Pattern}
 use Rattle.pattern.specs.declared.PatternReading.{PatternReading}
 use Rattle.pattern.specs.declared.PatternReading.the-variants.{Is}
-use Rattle.pattern.specs.Reading.{halfOf, endOf, fits, manyPlaces, stepOver, manyMarks, sameMarks, patternOf, judgedMarks, judged, ownAffixes, withSecond, halves, readPattern, refuse}
+use Rattle.pattern.specs.Reading.{halfOf, endOf, fits, manyPlaces, stepOver, manyMarks, sameMarks, patternOf, judgedMarks, halves, readPattern, refuse}
 use Rattle.pattern_grammar.specs.Grammar.{IsPattern}
 use Rattle.pattern_grammar.specs.Verdict.{wellFormed, secondHalf, negativeOf, inEither, Plain, Verdict, too-long, not-utf8, reserved, not-a-pattern, many-places, large-step, many-marks, other-marks, read}
 use Rattle.pattern_grammar.proofs.Subpatterns.{pattern-sound, pattern-complete}

@@ -1,5 +1,5 @@
 -- The bounds of what is read of a pattern, as document 01's rows 34 and 35 and its grammar leave them.
-use Prim.Native.Nat.{ℕ, _≤_, _<_}
+use Prim.Native.Nat.{_≤_, _<_}
 use Rattle.pattern.specs.Limits.{maxWhole, maxFraction, maxStep}
 use Rattle.pattern.specs.declared.Pattern.{Pattern}
 

@@ -1,7 +1,7 @@
 -- Document 01, "The pattern": what a number part is. "Number part: integer places `#` first, then digits; optionally `.`, then digits, then `#`.
 -- Either side of the point may be empty, but at least one digit stands in the part."
 use mathlib.Core.Path.{_≡_}
-use mathlib.Core.Bool.{Bool, true, false}
+use mathlib.Core.Bool.{false}
 use mathlib.Core.List.{List, [], _∷_, _++_}
 use Prim.Native.Nat.{ℕ, suc, _<_}
 use lib.Dec.{eqb}

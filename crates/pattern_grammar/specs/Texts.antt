@@ -5,11 +5,9 @@ use Prim.Native.Nat.{ℕ}
 use lib.ListN.{take, drop}
 use Rattle.pattern.specs.declared.Span.{Span}
 use Rattle.pattern.specs.declared.Negative.{Negative}
-use Rattle.pattern.specs.declared.Negative.the-variants.{MinusSymbol, Own}
+use Rattle.pattern.specs.declared.Negative.the-variants.{Own}
 use Rattle.pattern.specs.declared.Pattern.{Pattern}
-use Rattle.numberpart.specs.declared.Shape.{Shape}
 use Rattle.numberpart.specs.Shape.{shapeOf}
-use Rattle.pattern_grammar.specs.Grammar.{IsSub}
 
 abbrev pub textAt : List ℕ → Span → List ℕ
 textAt s p = take (p .len) (drop (p .start) s)

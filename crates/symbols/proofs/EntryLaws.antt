@@ -6,18 +6,17 @@ use Prim.Native.Nat.{ℕ, zero, suc, _+_, _-_, _≤_, _<_}
 use native.Mathlib.Omega.{arith}
 use native.Mathlib.Numerals.{add-one}
 use borrow.Author.Tests.{eq-eqb, ne-eqb, ltb-true}
-use lib.Dec.{eqb, ltb}
+use lib.Dec.{ltb}
 use lib.ListN.{length, getD, take, drop, drop-of-length-le, length-drop}
 use lib.Seq.{drop-cons, drop-drop, getD-drop}
 use native.Mathlib.Nat.{add-zero}
-use Rattle.decimal.specs.Choice.{if_then_else_}
 use Rattle.decimal.proofs.Choices.{choice}
 use Rattle.symbols.specs.declared.Symbol.{Symbol}
 use Rattle.symbols.specs.declared.Kind.{Kind}
 use Rattle.symbols.specs.declared.Kind.the-variants.{Unknown, Known}
 use Rattle.symbols.specs.declared.Head.{Head}
 use Rattle.symbols.specs.Kinds.{kindOf}
-use Rattle.symbols.specs.Entries.{noHead, headIn, headOf, Entry, entriesFrom, entries, brokenFrom, broken, same, holds, bodyIn, twice, bodyFits, bodiesFit}
+use Rattle.symbols.specs.Entries.{headIn, headOf, Entry, entriesFrom, entries, brokenFrom, same, holds, bodyIn, twice, bodyFits, bodiesFit}
 
 -- an entry stands within its bytes
 pub head-within : (k : Kind) (n : ℕ) → 0 < n → headIn k n .len < n

@@ -1,6 +1,6 @@
 -- Document 01, "The symbol record": "A kind byte decides by its upper and lower half: upper 1 decimal, 2 group, 3 minus, 4 plus, 5 percent, 6 permille;
 -- lower 1 to 4 is the body length."
-use mathlib.Core.Bool.{Bool, true, false}
+use mathlib.Core.Bool.{Bool, false}
 use Prim.Native.Nat.{ℕ, _/_, _%_}
 use lib.Dec.{ltb, eqb}
 use Rattle.decimal.specs.Choice.{if_then_else_}

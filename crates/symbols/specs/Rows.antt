@@ -1,12 +1,10 @@
 -- Document 01 and its readings, worked out.
 use mathlib.Core.Path.{_≡_, refl}
-use mathlib.Core.Bool.{true, false}
-use mathlib.Core.List.{List, [], _∷_, _++_}
+use mathlib.Core.List.{List, [], _∷_}
 use Prim.Native.Nat.{ℕ}
 use Rattle.answer.specs.declared.SymbolRow.the-variants.{NotASymbolRecord, BadSymbolBody}
-use Rattle.symbols.specs.declared.Judged.{Judged}
 use Rattle.symbols.specs.declared.Judged.the-variants.{Good}
-use Rattle.symbols.specs.declared.Symbol.the-variants.{Decimal, Group, Minus, Permille}
+use Rattle.symbols.specs.declared.Symbol.the-variants.{Decimal, Group, Permille}
 use Rattle.symbols.specs.Kinds.{kindOf}
 use Rattle.symbols.specs.Entries.{readSymbols, refuse, symbolIn, standardRecord}
 

@@ -1,14 +1,13 @@
 -- The record that is read is the record that the bytes spell; rows 40 and 41; what the finder gives.
 use mathlib.Core.Path.{_≡_, refl, sym, ap, subst, _∙_}
-use mathlib.Core.Bool.{Bool, true, false, not}
+use mathlib.Core.Bool.{true, false, not}
 use mathlib.Core.List.{List, [], _∷_, _++_}
 use Prim.Native.Nat.{ℕ, zero, suc, _+_, _*_, _-_, _/_, _%_, _≤_, _<_}
 use native.Mathlib.Omega.{arith}
 use borrow.Author.Tests.{eq-eqb, ne-eqb, eqb-true, eqb-false, lt-ltb, ltb-true}
 use lib.Dec.{eqb, ltb}
-use lib.ListN.{length, getD, take, drop, take-append-drop, length-append, length-drop}
+use lib.ListN.{length, take, drop, take-append-drop, length-append, length-drop}
 use lib.Seq.{take-at, drop-at, length-take-le}
-use Rattle.decimal.specs.Choice.{if_then_else_}
 use Rattle.decimal.proofs.Choices.{tested, not-both}
 use Rattle.answer.specs.declared.SymbolRow.the-variants.{NotASymbolRecord, BadSymbolBody}
 use Rattle.symbols.specs.declared.Symbol.{Symbol}
@@ -17,9 +16,9 @@ use Rattle.symbols.specs.declared.Kind.{Kind}
 use Rattle.symbols.specs.declared.Kind.the-variants.{Unknown, Known}
 use Rattle.symbols.specs.declared.Head.{Head}
 use Rattle.symbols.specs.declared.Judged.{Judged}
-use Rattle.symbols.specs.declared.Judged.the-variants.{Good, Refused}
+use Rattle.symbols.specs.declared.Judged.the-variants.{Good}
 use Rattle.symbols.specs.Kinds.{upperOf, kindWith, isLength, kindOf}
-use Rattle.symbols.specs.Entries.{noHead, headIn, headOf, Entry, entriesFrom, entries, brokenFrom, broken, same, holds, bodyIn, twice, bodyFits, bodiesFit, refuse, readSymbols, symbolIn, standardRecord}
+use Rattle.symbols.specs.Entries.{headIn, headOf, Entry, entries, broken, same, holds, bodyIn, twice, bodyFits, bodiesFit, refuse, readSymbols, symbolIn, standardRecord}
 use Rattle.symbols.proofs.KindLaws.{kind-at, length-bounds}
 use Rattle.symbols.proofs.EntryLaws.{entries-skip, broken-skip}
 use Rattle.symbols_grammar.specs.Record.{kindByte, Sized, AllSized, none, more, textOf, Spells, Among, here, later, Verdict, no-record, symbol-twice, bad-body, good}

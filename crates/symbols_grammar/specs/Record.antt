@@ -1,7 +1,7 @@
 -- Document 01, "The symbol record": what a record is, on bytes, and which answer it gets. "One byte of kind, then a body whose length the kind fixes;
 -- records run to the end."
 use mathlib.Core.Path.{_≡_}
-use mathlib.Core.Bool.{Bool, true, false}
+use mathlib.Core.Bool.{true, false}
 use mathlib.Core.List.{List, [], _∷_, _++_}
 use Prim.Native.Nat.{ℕ, _+_, _*_, _≤_}
 use lib.ListN.{length}

@@ -1,16 +1,14 @@
 -- Laws of UTF-8: one turn of each scan, and its end.
 use mathlib.Core.Path.{_≡_, refl, sym, ap, _∙_}
-use mathlib.Core.Bool.{Bool, true, false}
+use mathlib.Core.Bool.{true, false}
 use mathlib.Core.List.{List, [], _∷_}
 use Prim.Native.Nat.{ℕ, zero, suc, _+_, _-_, _≤_, _<_}
 use native.Mathlib.Omega.{arith}
 use native.Mathlib.Numerals.{add-one}
 use borrow.Author.Tests.{eq-eqb, ne-eqb, lt-ltb, le-ltb}
-use lib.Dec.{eqb}
 use lib.ListN.{length, getD, drop, drop-of-length-le, length-drop}
 use lib.Seq.{drop-cons, drop-drop}
-use Rattle.decimal.specs.Choice.{if_then_else_}
-use Rattle.utf8.specs.Utf8.{continues, charLen, utf8From, isUtf8}
+use Rattle.utf8.specs.Utf8.{continues, charLen, utf8From}
 use Rattle.utf8.proofs.Lower.{drop-some}
 
 -- ---- bytes from 80 to BF

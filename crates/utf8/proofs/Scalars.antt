@@ -1,16 +1,16 @@
 -- A text begins with a code point exactly where its first bytes spell one; it is UTF-8 exactly where it is spelled code points.
 use mathlib.Core.Path.{_≡_, refl, sym, ap, subst, _∙_}
-use mathlib.Core.Bool.{Bool, true, false}
+use mathlib.Core.Bool.{true, false}
 use mathlib.Core.List.{List, [], _∷_, _++_}
 use Prim.Native.Nat.{ℕ, zero, suc, _+_, _*_, _-_, _/_, _%_, _≤_, _<_}
 use native.Mathlib.Omega.{arith}
-use borrow.Author.Tests.{eq-eqb, ne-eqb, eqb-true, eqb-false, lt-ltb, le-ltb, ltb-true, ltb-false}
+use borrow.Author.Tests.{ne-eqb, eqb-true, eqb-false, lt-ltb, le-ltb, ltb-true, ltb-false}
 use lib.Dec.{eqb, ltb}
-use lib.ListN.{length, getD, take, drop, length-append, length-drop}
+use lib.ListN.{length, take, drop, length-append}
 use lib.Seq.{drop-at}
-use Rattle.decimal.specs.Choice.{if_then_else_, both}
+use Rattle.decimal.specs.Choice.{both}
 use Rattle.decimal.proofs.Choices.{tested, not-both}
-use Rattle.utf8.specs.Utf8.{charBytes, lowSecond, highSecond, continues, restFits, charLen, utf8From, isUtf8}
+use Rattle.utf8.specs.Utf8.{charBytes, lowSecond, highSecond, continues, restFits, charLen, isUtf8}
 use Rattle.utf8.specs.Scalar.{isScalar, spell, spellAll, allScalar, Begins, IsText}
 use Rattle.utf8.proofs.Lower.{both-true}
 use Rattle.utf8.proofs.Laws.{utf8-one, utf8-none}

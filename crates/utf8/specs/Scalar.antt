@@ -1,6 +1,6 @@
 -- Which bytes spell a code point: the Unicode Standard, table 3-6, for every number up to 10FFFF that is no surrogate.
 use mathlib.Core.Path.{_≡_}
-use mathlib.Core.Bool.{Bool, true, false}
+use mathlib.Core.Bool.{Bool, true}
 use mathlib.Core.List.{List, [], _∷_, _++_}
 use Prim.Native.Nat.{ℕ, _+_, _/_, _%_}
 use lib.Dec.{ltb}

@@ -1,8 +1,8 @@
 -- `lexer::affix_of` answers the affix that a text begins with. The invariant: the bytes passed and the affix still to come are the whole affix.
 use native.Mathlib.Omega.{arith}
-use mathlib.Core.Path.{_≡_, refl, sym, ap, _∙_}
-use Prim.Native.Nat.{_≤_, _-_, _+_}
-use lib.ListN.{length, drop}
+use mathlib.Core.Path.{sym, _∙_}
+use Prim.Native.Nat.{_≤_, _-_}
+use lib.ListN.{length}
 use Rattle.lexer.proofs.ItemLaws.{Passed, passed-start, passed-end, passed-again, passed-out, affix-end}
 use borrow.Author.Needs.{needs}
 use Rattle.lexer.proofs.affix_of.Statement.{statement}

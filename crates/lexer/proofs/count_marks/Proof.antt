@@ -1,6 +1,6 @@
 -- `lexer::count_marks` counts a mark. The invariant: those counted and those still to come are all, and no more are counted than bytes passed.
 use native.Mathlib.Omega.{arith}
-use mathlib.Core.Path.{_≡_, refl, sym, ap, _∙_}
+use mathlib.Core.Path.{_≡_}
 use Prim.Native.Nat.{_≤_, _-_, _+_}
 use lib.ListN.{length, drop}
 use Rattle.lexer.specs.Items.{itemsFrom, items}

@@ -1,7 +1,7 @@
 -- `lexer::has_reserved` answers whether a reserved item stands in a text. The invariant: the answer for the items still to come is the whole answer.
 use native.Mathlib.Omega.{arith}
-use mathlib.Core.Path.{_≡_, refl, sym, ap, _∙_}
-use Prim.Native.Nat.{_≤_, _-_, _+_}
+use mathlib.Core.Path.{_≡_, sym, _∙_}
+use Prim.Native.Nat.{_≤_, _-_}
 use lib.ListN.{length, drop}
 use Rattle.lexer.specs.Items.{itemsFrom, items}
 use Rattle.lexer.specs.Affixes.{anyReserved}

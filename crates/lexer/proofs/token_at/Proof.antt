@@ -1,5 +1,5 @@
 -- `lexer::token_at` answers its definition, test by test.
-use mathlib.Core.Path.{_≡_, sym, _∙_}
+use mathlib.Core.Path.{sym, _∙_}
 use borrow.Author.Tests.{eq-eqb, ne-eqb}
 use Rattle.lexer.proofs.ItemLaws.{token-none}
 use borrow.Author.Needs.{needs}

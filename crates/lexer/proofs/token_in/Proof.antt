@@ -1,5 +1,5 @@
 -- `lexer::token_in` answers the token of the bytes from a place on; it stands within them.
-use mathlib.Core.Path.{_≡_, ap, _∙_}
+use mathlib.Core.Path.{ap, _∙_}
 use Rattle.lexer.specs.Items.{tokenAt}
 use Rattle.lexer.proofs.ItemLaws.{token-within}
 use borrow.Author.Needs.{needs}

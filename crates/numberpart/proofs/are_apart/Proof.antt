@@ -1,7 +1,7 @@
 -- `numberpart::are_apart` answers its definition. The invariant: the answer for the bytes still to come is the whole answer.
 use native.Mathlib.Omega.{arith}
 use mathlib.Core.Path.{_≡_, refl, sym, _∙_}
-use Prim.Native.Nat.{_≤_, _-_, _+_}
+use Prim.Native.Nat.{_≤_, _-_}
 use lib.ListN.{length, drop}
 use Rattle.numberpart.specs.Shape.{apart}
 use Rattle.numberpart.proofs.Scans.{apart-more, apart-end, apart-out}

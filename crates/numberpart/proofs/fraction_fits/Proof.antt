@@ -1,6 +1,5 @@
 -- `numberpart::fraction_fits` answers its definition from the two runs.
 use native.Mathlib.Omega.{arith}
-use mathlib.Core.Path.{_≡_, sym, ap, _∙_}
 use lib.ListN.{length-drop}
 use borrow.Author.Needs.{needs}
 use Rattle.numberpart.proofs.fraction_fits.Statement.{statement}

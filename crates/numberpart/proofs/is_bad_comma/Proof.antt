@@ -1,5 +1,4 @@
 -- `numberpart::is_bad_comma` answers its definition at a place.
-use mathlib.Core.Path.{_≡_}
 use Rattle.numberpart.proofs.Scans.{not-bad-comma, bad-comma-last, bad-comma-next}
 use borrow.Author.Needs.{needs}
 use Rattle.numberpart.proofs.is_bad_comma.Statement.{statement}

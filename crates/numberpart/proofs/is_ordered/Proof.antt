@@ -1,8 +1,8 @@
 -- `numberpart::is_ordered` answers its definition. The invariant: the answer for the bytes still to come is the whole answer.
 use native.Mathlib.Omega.{arith}
-use mathlib.Core.Path.{_≡_, refl, sym, ap, _∙_}
-use mathlib.Core.Bool.{Bool, false}
-use Prim.Native.Nat.{_≤_, _-_, _+_}
+use mathlib.Core.Path.{_≡_, refl, sym, _∙_}
+use mathlib.Core.Bool.{false}
+use Prim.Native.Nat.{_≤_, _-_}
 use lib.ListN.{length, drop}
 use Rattle.numberpart.specs.Shape.{ordered}
 use Rattle.numberpart.proofs.Scans.{ordered-end, ordered-more, ordered-out}

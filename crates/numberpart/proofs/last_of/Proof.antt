@@ -1,7 +1,7 @@
 -- `numberpart::last_of` finds the last b from the end. The invariant: the last b of the bytes before here is the last of all.
 use native.Mathlib.Omega.{arith}
 use mathlib.Core.Path.{_≡_, sym, ap, _∙_}
-use Prim.Native.Nat.{_≤_, _-_, _+_}
+use Prim.Native.Nat.{_≤_, _-_}
 use lib.ListN.{length, take}
 use lib.Seq.{take-length}
 use Rattle.numberpart.specs.Shape.{last}

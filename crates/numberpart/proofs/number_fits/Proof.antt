@@ -1,5 +1,5 @@
 -- `numberpart::number_fits` answers its definition, test by test.
-use mathlib.Core.Path.{_≡_, sym, ap, _∙_}
+use mathlib.Core.Path.{sym, _∙_}
 use borrow.Author.Tests.{lt-ltb, le-ltb}
 use borrow.Author.Needs.{needs}
 use Rattle.numberpart.proofs.number_fits.Statement.{statement}

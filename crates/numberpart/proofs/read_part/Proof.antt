@@ -1,5 +1,4 @@
 -- `numberpart::read_part` answers its definition from what its callees answer.
-use mathlib.Core.Path.{_≡_, sym, ap, _∙_}
 use borrow.Author.Needs.{needs}
 use Rattle.numberpart.proofs.read_part.Statement.{statement}
 use Rattle.numberpart.proofs.read_part.Tie as tie

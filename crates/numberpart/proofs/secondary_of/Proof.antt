@@ -1,8 +1,8 @@
 -- `numberpart::secondary_of` answers its definition, test by test.
 use Rattle.numberpart.specs.Shape.{primaryOf}
 use Rattle.numberpart.proofs.Scans.{secondary-same, secondary-front}
-use mathlib.Core.Path.{_≡_, sym, ap, _∙_}
-use borrow.Author.Tests.{eq-eqb, ne-eqb}
+use mathlib.Core.Path.{ap, _∙_}
+use borrow.Author.Tests.{eq-eqb}
 use borrow.Author.Needs.{needs}
 use Rattle.numberpart.proofs.secondary_of.Statement.{statement}
 use Rattle.numberpart.proofs.secondary_of.Tie as tie

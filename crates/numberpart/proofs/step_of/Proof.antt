@@ -1,6 +1,5 @@
 -- `numberpart::step_of` answers the step, kept at the bound.
 use native.Mathlib.Omega.{arith}
-use mathlib.Core.Path.{_≡_}
 use Rattle.numberpart.specs.Shape.{stepCap}
 use Rattle.numberpart.proofs.Steps.{step-none, step-some}
 use borrow.Author.Needs.{needs}

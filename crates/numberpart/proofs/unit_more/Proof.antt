@@ -1,6 +1,6 @@
 -- `numberpart::unit_more` answers its definition, test by test, kept at the bound.
 use native.Mathlib.Omega.{arith}
-use mathlib.Core.Path.{_≡_, sym, _∙_}
+use mathlib.Core.Path.{sym, _∙_}
 use borrow.Author.Tests.{eq-eqb, ne-eqb}
 use borrow.Author.Needs.{needs}
 use Rattle.numberpart.proofs.unit_more.Statement.{statement}

@@ -1,7 +1,7 @@
 -- `numberpart::units` reads the step. The invariant: the step of the bytes still to come after the units so far, kept at the bound, is the whole step so kept.
 use native.Mathlib.Omega.{arith}
-use mathlib.Core.Path.{_≡_, refl, sym, _∙_}
-use Prim.Native.Nat.{_≤_, _-_, _+_, min}
+use mathlib.Core.Path.{_≡_, refl, _∙_}
+use Prim.Native.Nat.{_≤_, _-_, min}
 use lib.ListN.{length, drop}
 use Rattle.numberpart.specs.Shape.{unitsFrom, stepCap}
 use Rattle.numberpart.proofs.Steps.{units-again, units-out}

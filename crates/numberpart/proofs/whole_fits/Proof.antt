@@ -1,5 +1,5 @@
 -- `numberpart::whole_fits` answers its definition, test by test.
-use mathlib.Core.Path.{_≡_, sym, _∙_}
+use mathlib.Core.Path.{sym, _∙_}
 use borrow.Author.Needs.{needs}
 use Rattle.numberpart.proofs.whole_fits.Statement.{statement}
 use Rattle.numberpart.proofs.whole_fits.Tie as tie

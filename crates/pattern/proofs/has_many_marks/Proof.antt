@@ -1,6 +1,6 @@
 -- `pattern::has_many_marks` answers its definition; no sum is made of counts above one.
 use native.Mathlib.Omega.{arith}
-use mathlib.Core.Path.{_≡_, sym}
+use mathlib.Core.Path.{sym}
 use Prim.Native.Nat.{_+_}
 use borrow.Author.Tests.{lt-ltb}
 use borrow.Author.Needs.{needs}

@@ -1,5 +1,5 @@
 -- `pattern::judge` answers its definition, test by test.
-use mathlib.Core.Path.{_≡_, sym, ap, _∙_}
+use mathlib.Core.Path.{sym, _∙_}
 use borrow.Author.Needs.{needs}
 use Rattle.pattern.proofs.judge.Statement.{statement}
 use Rattle.pattern.proofs.judge.Tie as tie

@@ -1,6 +1,5 @@
 -- `pattern::judge_marks` answers its definition, test by test.
-use mathlib.Core.Path.{_≡_, sym, ap, _∙_}
-use Rattle.pattern.specs.declared.PatternReading.the-variants.{Is}
+use mathlib.Core.Path.{sym, _∙_}
 use borrow.Author.Needs.{needs}
 use Rattle.pattern.proofs.judge_marks.Statement.{statement}
 use Rattle.pattern.proofs.judge_marks.Tie as tie

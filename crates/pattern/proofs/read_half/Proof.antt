@@ -1,8 +1,7 @@
 -- `pattern::read_half` answers its definition from what its callees answer, and ends within the text.
 use native.Mathlib.Omega.{arith}
 use Prim.Native.Nat.{_+_}
-use mathlib.Core.Path.{_≡_, sym, ap, _∙_}
-use lib.ListN.{length, drop, length-drop}
+use lib.ListN.{length-drop}
 use borrow.Author.Needs.{needs}
 use Rattle.pattern.proofs.read_half.Statement.{statement}
 use Rattle.pattern.proofs.read_half.Tie as tie

@@ -1,6 +1,6 @@
 -- `pattern::read_halves` answers its definition: one subpattern, a stray byte, or two subpatterns, the second from the pattern's middle.
 use Rattle.pattern.specs.Reading.{endOf, judged}
-use mathlib.Core.Path.{_≡_, sym, ap, _∙_}
+use mathlib.Core.Path.{ap, _∙_}
 use Prim.Native.Nat.{ℕ, _+_, _-_}
 use mathlib.Core.List.{List}
 use lib.ListN.{length, drop, length-drop}

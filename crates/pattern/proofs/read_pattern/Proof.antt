@@ -1,5 +1,5 @@
 -- `pattern::read_pattern` answers its definition, test by test.
-use mathlib.Core.Path.{_≡_, sym, _∙_}
+use mathlib.Core.Path.{sym, _∙_}
 use borrow.Author.Tests.{lt-ltb, le-ltb}
 use borrow.Author.Needs.{needs}
 use Rattle.pattern.proofs.read_pattern.Statement.{statement}

@@ -1,5 +1,5 @@
 -- `symbols::body_fits` answers its definition, test by test, from what its callees answer.
-use mathlib.Core.Path.{_≡_, sym, ap, _∙_}
+use mathlib.Core.Path.{sym, _∙_}
 use borrow.Author.Needs.{needs}
 use Rattle.symbols.proofs.body_fits.Statement.{statement}
 use Rattle.symbols.proofs.body_fits.Tie as tie

@@ -1,8 +1,8 @@
 -- `symbols::do_bodies_fit` answers whether all bodies fit. The invariant: the answer for the entries still to come is the whole answer.
 use native.Mathlib.Omega.{arith}
 use Rattle.symbols.proofs.EntryLaws.{entries-step}
-use mathlib.Core.Path.{_≡_, refl, sym, ap, _∙_}
-use Prim.Native.Nat.{_≤_, _-_, _+_}
+use mathlib.Core.Path.{_≡_, sym, ap, _∙_}
+use Prim.Native.Nat.{_≤_, _-_}
 use lib.ListN.{length, drop}
 use Rattle.symbols.specs.Entries.{entriesFrom, entries, bodiesFit}
 use Rattle.symbols.proofs.EntryLaws.{entries-end, entries-out, bodies-again, bodies-bad}

@@ -1,5 +1,5 @@
 -- `symbols::find` answers a part of the house record where it has the symbol, else of the standard record: the parts that `locate` names.
-use mathlib.Core.Path.{_≡_, sym, _∙_}
+use mathlib.Core.Path.{sym, _∙_}
 use native.Mathlib.Nat.{add-sub-cancel-left}
 use borrow.Author.Needs.{needs}
 use Rattle.symbols.proofs.find.Statement.{statement}

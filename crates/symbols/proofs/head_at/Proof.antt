@@ -1,11 +1,9 @@
 -- `symbols::head_at` answers the head of the bytes from a place on, and its entry stands within them.
 use native.Mathlib.Omega.{arith}
 use Prim.Native.Nat.{_-_}
-use lib.ListN.{length, drop, length-drop}
-use lib.Seq.{getD-drop}
-use native.Mathlib.Nat.{add-zero}
+use lib.ListN.{length}
 use Rattle.symbols.proofs.EntryLaws.{head-there, head-within}
-use mathlib.Core.Path.{_≡_, sym, ap, _∙_}
+use mathlib.Core.Path.{_∙_}
 use borrow.Author.Needs.{needs}
 use Rattle.symbols.proofs.head_at.Statement.{statement}
 use Rattle.symbols.proofs.head_at.Tie as tie

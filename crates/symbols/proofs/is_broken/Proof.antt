@@ -1,7 +1,7 @@
 -- `symbols::is_broken` answers whether a record breaks off. The invariant: the answer for the bytes still to come is the whole answer.
 use native.Mathlib.Omega.{arith}
-use mathlib.Core.Path.{_≡_, refl, sym, ap, _∙_}
-use Prim.Native.Nat.{_≤_, _-_, _+_}
+use mathlib.Core.Path.{_≡_, sym, _∙_}
+use Prim.Native.Nat.{_≤_, _-_}
 use lib.ListN.{length, drop}
 use Rattle.symbols.specs.Entries.{brokenFrom, broken}
 use Rattle.symbols.proofs.EntryLaws.{broken-end, broken-step, broken-out}

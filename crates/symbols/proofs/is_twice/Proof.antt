@@ -1,7 +1,7 @@
 -- `symbols::is_twice` answers whether a symbol stands twice. The invariant: the answer for the entries still to come is the whole answer.
 use native.Mathlib.Omega.{arith}
-use mathlib.Core.Path.{_≡_, refl, sym, ap, _∙_}
-use Prim.Native.Nat.{_≤_, _-_, _+_}
+use mathlib.Core.Path.{_≡_, sym, ap, _∙_}
+use Prim.Native.Nat.{_≤_, _-_}
 use lib.ListN.{length, drop}
 use Rattle.symbols.specs.Entries.{entriesFrom, entries, twice}
 use Rattle.symbols.proofs.EntryLaws.{entries-end, entries-step, entries-out, twice-again, twice-found}

@@ -1,6 +1,6 @@
 -- `symbols::kind_of` answers its definition: a byte of known halves by one law, every other byte by another.
 use native.Mathlib.Omega.{arith}
-use mathlib.Core.Path.{_≡_, sym}
+use mathlib.Core.Path.{sym}
 use Rattle.symbols.proofs.KindLaws.{kind-at, unknown}
 use borrow.Author.Needs.{needs}
 use Rattle.symbols.proofs.kind_of.Statement.{statement}

@@ -1,8 +1,8 @@
 -- `symbols::locate` finds the first entry of a symbol. The invariant: what is found from here on is what the record holds.
 use native.Mathlib.Omega.{arith}
-use mathlib.Core.Path.{_≡_, refl, sym, ap, _∙_}
-use Prim.Native.Nat.{_≤_, _-_, _+_}
-use lib.ListN.{length, drop}
+use mathlib.Core.Path.{sym, _∙_}
+use Prim.Native.Nat.{_≤_, _-_}
+use lib.ListN.{length}
 use Rattle.symbols.proofs.EntryLaws.{Sought, sought-start, sought-none, sought-found, sought-again, entries-end, entries-step, entries-out}
 use borrow.Author.Needs.{needs}
 use Rattle.symbols.proofs.locate.Statement.{statement}

@@ -1,5 +1,5 @@
 -- `symbols::read_symbols` answers its definition, test by test.
-use mathlib.Core.Path.{_≡_, sym, _∙_}
+use mathlib.Core.Path.{sym, _∙_}
 use borrow.Author.Needs.{needs}
 use Rattle.symbols.proofs.read_symbols.Statement.{statement}
 use Rattle.symbols.proofs.read_symbols.Tie as tie

@@ -1,5 +1,5 @@
 -- `utf8::all_continue` answers whether all bytes are from 80 to BF. The invariant: the answer for the bytes still to come is the whole answer.
-use mathlib.Core.Path.{_≡_, refl, sym, _∙_}
+use mathlib.Core.Path.{_≡_, sym, _∙_}
 use Prim.Native.Nat.{_≤_, _-_}
 use lib.ListN.{length, drop}
 use Rattle.utf8.specs.Utf8.{continues}

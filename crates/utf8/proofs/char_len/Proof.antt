@@ -1,10 +1,9 @@
 -- `utf8::char_len` answers its definition, test by test; an empty text begins with no code point.
 use native.Mathlib.Omega.{arith}
-use mathlib.Core.Path.{_≡_, sym, _∙_}
+use mathlib.Core.Path.{sym, _∙_}
 use Prim.Native.Nat.{_-_}
 use borrow.Author.Tests.{lt-ltb, le-ltb}
 use lib.ListN.{drop, length-drop, length-take}
-use Rattle.utf8.specs.Utf8.{charLen}
 use Rattle.utf8.proofs.Laws.{char-none}
 use borrow.Author.Needs.{needs}
 use Rattle.utf8.proofs.char_len.Statement.{statement}

@@ -1,9 +1,9 @@
 -- `utf8::is_utf8` answers whether a text is code points one after the other. The invariant: the answer for the bytes still to come is the whole answer.
 use native.Mathlib.Omega.{arith}
-use mathlib.Core.Path.{_≡_, refl, sym, _∙_}
-use Prim.Native.Nat.{_≤_, _-_, _+_}
+use mathlib.Core.Path.{_≡_, sym, _∙_}
+use Prim.Native.Nat.{_≤_, _-_}
 use lib.ListN.{length, drop, length-drop}
-use Rattle.utf8.specs.Utf8.{charLen, utf8From, isUtf8}
+use Rattle.utf8.specs.Utf8.{utf8From, isUtf8}
 use Rattle.utf8.proofs.Laws.{utf8-step, utf8-end, utf8-out}
 use borrow.Author.Needs.{needs}
 use Rattle.utf8.proofs.is_utf8.Statement.{statement}
