@@ -1,0 +1,5 @@
+pub mod NumberPart
+pub mod Grammar
+pub mod Verdict
+pub mod Bounds
+pub mod Texts

@@ -1,0 +1,277 @@
+// The symbol record: refusals 40 and 41, and the body of a symbol.
+//
+// The entries are read_symbols and find. specs/Kinds.antt says what a kind byte means,
+// specs/Entries.antt what a record holds. A new kind is a line in the enum, in kind_of, in upper and
+// in their definitions.
+ghost use mathlib.Core.Path.{_≡_};
+ghost use Prim.Native.Nat.{_+_, _<_, _≤_};
+ghost use lib.ListN.{length, take, drop, getD};
+ghost use Rattle.symbols.specs.Kinds.{upperOf, kindOf};
+ghost use Rattle.symbols.specs.Entries.{headIn, headOf, entries, broken, same, holds, bodyIn, twice, bodyFits, bodiesFit, readSymbols, symbolIn, standardRecord};
+use answer::Refusal;
+use answer::SymbolRow;
+use decimal::cut;
+use decimal::scan;
+
+pub enum Symbol {
+    Decimal,
+    Group,
+    Minus,
+    Plus,
+    Percent,
+    Permille,
+}
+
+// What a kind byte means: a symbol and its body's length.
+pub enum Kind {
+    Unknown,
+    Known(Symbol, usize),
+}
+
+// The entry that a record begins with: length 0 where it begins with none.
+pub struct Head {
+    pub symbol: Symbol,
+    pub len: usize,
+}
+
+// Where a symbol's body stands in a record: an empty part at its front where it has none.
+pub struct Spot {
+    pub found: bool,
+    pub start: usize,
+    pub len: usize,
+}
+
+pub enum Judged {
+    Good,
+    Refused(Refusal),
+}
+
+pub const STANDARD: [u8; 14] = [
+    0x11,
+    0x2E,
+    0x21,
+    0x2C,
+    0x31,
+    0x2D,
+    0x41,
+    0x2B,
+    0x51,
+    0x25,
+    0x63,
+    0xE2,
+    0x80,
+    0xB0,
+];
+
+fn refuse(row: SymbolRow) -> Judged
+    ensures { λ r. ⌜ r ≡ Judged.Refused (Refusal.Symbols row) ⌝ }
+{
+    Judged::Refused(Refusal::Symbols(row))
+}
+
+fn kind_of(b: u8) -> Kind
+    ensures { λ r. ⌜ r ≡ kindOf b ⌝ }
+{
+    match b {
+        0x11..=0x14 => Kind::Known(Symbol::Decimal, (b % 16) as usize),
+        0x21..=0x24 => Kind::Known(Symbol::Group, (b % 16) as usize),
+        0x31..=0x34 => Kind::Known(Symbol::Minus, (b % 16) as usize),
+        0x41..=0x44 => Kind::Known(Symbol::Plus, (b % 16) as usize),
+        0x51..=0x54 => Kind::Known(Symbol::Percent, (b % 16) as usize),
+        0x61..=0x64 => Kind::Known(Symbol::Permille, (b % 16) as usize),
+        _ => Kind::Unknown,
+    }
+}
+
+fn upper(y: Symbol) -> u8
+    ensures { λ r. ⌜ r ≡ upperOf y ⌝ }
+{
+    match y {
+        Symbol::Decimal => 1,
+        Symbol::Group => 2,
+        Symbol::Minus => 3,
+        Symbol::Plus => 4,
+        Symbol::Percent => 5,
+        Symbol::Permille => 6,
+    }
+}
+
+fn is_same(a: Symbol, b: Symbol) -> bool
+    ensures { λ r. ⌜ r ≡ same a b ⌝ }
+{
+    upper(a) == upper(b)
+}
+
+// The entry of kind k in front of n bytes, its own among them.
+fn head_in(k: Kind, n: usize) -> Head
+    ensures { λ r. ⌜ r ≡ headIn k n ⌝ }
+{
+    match k {
+        Kind::Unknown => Head {
+            symbol: Symbol::Decimal,
+            len: 0,
+        },
+        Kind::Known(y, m) => {
+            if m < n {
+                return Head { symbol: y, len: m };
+            }
+            Head {
+                symbol: Symbol::Decimal,
+                len: 0,
+            }
+        }
+    }
+}
+
+// The entry at a place of s.
+fn head_at(s: &[u8], at: usize) -> Head
+    requires { ⌜ at < length (now s) ⌝ }
+    ensures { λ r. ⌜ r ≡ headOf (drop at (now (s .entry))) ⌝ }
+    ensures { λ r. ⌜ at + r .len < length (now (s .entry)) ⌝ }
+{
+    head_in(kind_of(s[at]), s.len() - at)
+}
+
+// Whether s has an unknown kind or a body cut short.
+fn is_broken(s: &[u8]) -> bool
+    ensures { λ r. ⌜ r ≡ broken (now (s .entry)) ⌝ }
+{
+    let mut i = 0;
+    while i < s.len() {
+        let h = head_at(s, i);
+        if h.len == 0 {
+            return true;
+        }
+        i += 1 + h.len;
+    }
+    false
+}
+
+// The first entry of the symbol y in s.
+fn locate(s: &[u8], y: Symbol) -> Spot
+    ensures { λ r. ⌜ (r .found ≡ holds y (entries (now (s .entry)))) × (take (r .len) (drop (r .start) (now (s .entry))) ≡ bodyIn y (entries (now (s .entry)))) ⌝ }
+    ensures { λ r. ⌜ r .start + r .len ≤ length (now (s .entry)) ⌝ }
+{
+    let mut i = 0;
+    while i < s.len() {
+        let h = head_at(s, i);
+        if h.len == 0 {
+            return Spot {
+                found: false,
+                start: 0,
+                len: 0,
+            };
+        }
+        let held = h.symbol;
+        if is_same(held, y) {
+            return Spot {
+                found: true,
+                start: i + 1,
+                len: h.len,
+            };
+        }
+        i += 1 + h.len;
+    }
+    Spot {
+        found: false,
+        start: 0,
+        len: 0,
+    }
+}
+
+// Whether s has the symbol y.
+fn has(s: &[u8], y: Symbol) -> bool
+    ensures { λ r. ⌜ r ≡ holds y (entries (now (s .entry))) ⌝ }
+{
+    let p = locate(s, y);
+    p.found
+}
+
+// Whether s has a symbol twice. No more than six entries are passed before that is known.
+fn is_twice(s: &[u8]) -> bool
+    ensures { λ r. ⌜ r ≡ twice (entries (now (s .entry))) ⌝ }
+{
+    let mut i = 0;
+    while i < s.len() {
+        let h = head_at(s, i);
+        if h.len == 0 {
+            return false;
+        }
+        let held = h.symbol;
+        let next = i + (1 + h.len);
+        if has(cut::after(s, next), held) {
+            return true;
+        }
+        i = next;
+    }
+    false
+}
+
+// The first byte of s, or 0.
+fn first(s: &[u8]) -> u8
+    ensures { λ r. ⌜ r ≡ getD (now (s .entry)) 0 0 ⌝ }
+{
+    if s.len() == 0 {
+        return 0;
+    }
+    s[0]
+}
+
+fn body_fits(s: &[u8]) -> bool
+    ensures { λ r. ⌜ r ≡ bodyFits (now (s .entry)) ⌝ }
+{
+    if utf8::is_char(s) {
+        return !scan::is_digit(first(s));
+    }
+    false
+}
+
+fn do_bodies_fit(s: &[u8]) -> bool
+    ensures { λ r. ⌜ r ≡ bodiesFit (entries (now (s .entry))) ⌝ }
+{
+    let mut i = 0;
+    while i < s.len() {
+        let h = head_at(s, i);
+        if h.len == 0 {
+            return true;
+        }
+        if body_fits(cut::upto(cut::after(s, i + 1), h.len)) {
+            i += 1 + h.len;
+        } else {
+            return false;
+        }
+    }
+    true
+}
+
+// Judges a symbol record.
+pub fn read_symbols(s: &[u8]) -> Judged
+    ensures { λ r. ⌜ r ≡ readSymbols (now (s .entry)) ⌝ }
+{
+    if is_broken(s) {
+        return refuse(SymbolRow::NotASymbolRecord);
+    }
+    if is_twice(s) {
+        return refuse(SymbolRow::NotASymbolRecord);
+    }
+    if do_bodies_fit(s) {
+        return Judged::Good;
+    }
+    refuse(SymbolRow::BadSymbolBody)
+}
+
+// The symbol's body: a part of the house record where that has the symbol, else of the standard record.
+pub fn find<'a>(house: &'a [u8], standard: &'a [u8], y: Symbol) -> &'a [u8]
+    ensures { λ r. ⌜ now r ≡ symbolIn (now (house .entry)) (now (standard .entry)) y ⌝ }
+{
+    let h = locate(house, y);
+    let a = h.start;
+    let e = h.start + h.len;
+    if h.found {
+        return &house[a..e];
+    }
+    let d = locate(standard, y);
+    let b = d.start;
+    let f = d.start + d.len;
+    &standard[b..f]
+}
