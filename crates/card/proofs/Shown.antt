@@ -3,4 +3,4 @@ use mathlib.Core.Path.{refl}
 use Rattle.card.specs.Card.{All, rows}
 
 pub card : All rows
-card = (refl, (refl, tt))
+card = (refl, (refl, (refl, (refl, tt))))

@@ -3,18 +3,24 @@ use mathlib.Core.Path.{_≡_}
 use mathlib.Core.Bool.{Bool, false}
 use mathlib.Core.List.{List, [], _∷_}
 use Prim.Native.Nat.{ℕ}
+use Rattle.answer.specs.declared.Keyword.the-variants.{Few, Other}
 use Rattle.number.specs.Reading.{readNumber}
 use Rattle.number.specs.declared.Number.{Number}
 use Rattle.number.specs.declared.Reading.{Reading}
 use Rattle.number.specs.declared.Reading.the-variants.{Is}
+use Rattle.plural.specs.declared.Selection.{Selection}
+use Rattle.plural.specs.declared.Selection.the-variants.{Word}
+use Rattle.select.specs.Select.{selectOf}
 
 -- A row of the card: what is asked, and the answer that the card gives.
 pub data Row : Type 0 where
   operands : (text : List ℕ) → Reading → Row
+  word : (pack number : List ℕ) → Selection → Row
 
 -- the row's answer is that of the definitions
 abbrev pub Right : Row → Type 0
 Right (operands text r) = readNumber text ≡ r
+Right (word pack number s) = selectOf pack number ≡ s
 
 abbrev pub All : List Row → Type 0
 All [] = Unit {0}
@@ -39,4 +45,8 @@ rows =
     operands (49 ∷ 46 ∷ 50 ∷ 48 ∷ 48 ∷ 53 ∷ 48 ∷ 99 ∷ 51 ∷ []) (positive 1200 2 1 50 5 3)
     -- "1.0: i 1, v 1, f 0"
     ∷ operands (49 ∷ 46 ∷ 48 ∷ []) (positive 1 1 0 0 0 0)
+    -- "`one: i = 1 and v = 0`: [..] 1.0 other"
+    ∷ word (111 ∷ 110 ∷ 101 ∷ 58 ∷ 32 ∷ 105 ∷ 32 ∷ 61 ∷ 32 ∷ 49 ∷ 32 ∷ 97 ∷ 110 ∷ 100 ∷ 32 ∷ 118 ∷ 32 ∷ 61 ∷ 32 ∷ 48 ∷ []) (49 ∷ 46 ∷ 48 ∷ []) (Word Other)
+    -- "`one: n = 1; few: n = 2..4`: 3.0 few"
+    ∷ word (111 ∷ 110 ∷ 101 ∷ 58 ∷ 32 ∷ 110 ∷ 32 ∷ 61 ∷ 32 ∷ 49 ∷ 59 ∷ 32 ∷ 102 ∷ 101 ∷ 119 ∷ 58 ∷ 32 ∷ 110 ∷ 32 ∷ 61 ∷ 32 ∷ 50 ∷ 46 ∷ 46 ∷ 52 ∷ []) (51 ∷ 46 ∷ 48 ∷ []) (Word Few)
     ∷ []

@@ -15,8 +15,8 @@ use Rattle.answer.specs.declared.Keyword.the-variants.{Other}
 use Rattle.answer.specs.declared.Refusal.the-variants.{TwoRulesMet}
 use Rattle.number.specs.declared.Number.{Number}
 use Rattle.number.specs.Alike.{negative}
-use Rattle.rules.specs.Syntax.{Rule}
-use Rattle.plural.specs.Meaning.{meets}
+use Rattle.rules.specs.Syntax.{Range, Rule}
+use Rattle.plural.specs.Meaning.{holds, meets}
 use Rattle.plural.specs.Select.{metBy, bit, countMet, firstMet, secondMet, keywordAt, pairOf, chosen, selection}
 use Rattle.plural.specs.Words.{MeetsAt, Chosen}
 use Rattle.plural.specs.Words.MeetsAt.{here, there}
@@ -163,3 +163,9 @@ met-sign (r ∷ rs) x = ap (λ (l : List Bool). meets r x ∷ l) (met-sign rs x)
 
 pub sign-no-word : (rules : List Rule) (x : Number) → selection rules (negative x) ≡ selection rules x
 sign-no-word rules x = ap (chosen rules) (met-sign rules x)
+
+-- ---- `c` and `e` in a rule are one operand
+
+pub letters-alike : (x : Number) (modulus : ℕ) (negated : Bool) (ranges : List Range)
+    → holds (record { operand = 99; modulus = modulus; negated = negated; ranges = ranges }) x ≡ holds (record { operand = 101; modulus = modulus; negated = negated; ranges = ranges }) x
+letters-alike x modulus negated ranges = refl

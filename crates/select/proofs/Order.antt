@@ -1,17 +1,22 @@
 -- Selection tests the pack, then the number, then 27.
 use mathlib.Core.Path.{_≡_, refl, sym, ap, _∙_}
-use mathlib.Core.List.{List, [], _∷_}
-use mathlib.Core.Logic.{_↔_, _⊎_}
+use mathlib.Core.Bool.{Bool, true, false}
+use mathlib.Core.List.{List, [], _∷_, _++_}
 use Prim.Native.Nat.{ℕ, _≤_, _<_}
+use lib.Dec.{eqb}
 use lib.ListN.{length}
-use Rattle.decimal.specs.Digits.{begins}
+use Rattle.decimal.specs.Digits.{begins, run}
 use Rattle.decimal.proofs.Choices.{never}
-use Rattle.answer.specs.declared.Keyword.{Keyword}
 use Rattle.answer.specs.declared.Refusal.{Refusal}
+use Rattle.number.specs.Limits.{maxBytes}
+use Rattle.number.specs.Grammar.{signText}
 use Rattle.number.specs.Reading.{readNumber}
+use Rattle.number.specs.Alike.{negated}
 use Rattle.number.specs.declared.Number.{Number}
 use Rattle.number.specs.declared.Reading.{Reading}
 use Rattle.number.specs.declared.Reading.the-variants.{Is, Refused as NumberRefused}
+use Rattle.number.proofs.Operands.{sign-alone, leading-zero, marks-alike as number-marks}
+use Rattle.plural.proofs.Chosen.{sign-no-word}
 use Rattle.rules.specs.Syntax.{Rule}
 use Rattle.grammar.specs.Reader.{PackAnswer, readPack}
 use Rattle.grammar.specs.Reader.PackAnswer.{Rules, Refused as PackRefused}
@@ -47,3 +52,26 @@ number-second pack number rules f p n = rw (p, n)
 -- else the rules and the number decide
 pub rules-last : (pack number : List ℕ) (rules : List Rule) (x : Number) → readPack pack ≡ Rules rules → readNumber number ≡ Is x → selectOf pack number ≡ selection rules x
 rules-last pack number rules x p n = rw (p, n)
+
+-- ---- texts that document 01 calls alike get the same answer
+
+negated-same : (rules : List Rule) (r : Reading) → selectNumber rules (negated r) ≡ selectNumber rules r
+negated-same rules (Is x) = sign-no-word rules x
+negated-same rules (NumberRefused f) = refl
+
+by-reading : (a : PackAnswer) (r r′ : Reading) → ((rules : List Rule) → selectNumber rules r ≡ selectNumber rules r′) → selectRules a r ≡ selectRules a r′
+by-reading (Rules rules) r r′ e = e rules
+by-reading (PackRefused f) r r′ e = refl
+
+-- the sign
+pub sign-alike : (pack s : List ℕ) → length s < maxBytes → begins 45 s ≡ false → selectOf pack (45 ∷ s) ≡ selectOf pack s
+sign-alike pack s h b = by-reading (readPack pack) (readNumber (45 ∷ s)) (readNumber s) (λ rules. rw (sign-alone s h b) (negated-same rules (readNumber s)))
+
+-- a leading integer zero
+pub zero-alike : (pack : List ℕ) (negative : Bool) (s : List ℕ) → eqb (run s) 0 ≡ false → length (signText negative ++ (48 ∷ s)) ≤ maxBytes
+    → selectOf pack (signText negative ++ (48 ∷ s)) ≡ selectOf pack (signText negative ++ s)
+zero-alike pack negative s r h = ap (selectRules (readPack pack)) (leading-zero negative s r h)
+
+-- `c` and `e` in a number
+pub marks-alike : (pack a b : List ℕ) → selectOf pack (a ++ (99 ∷ b)) ≡ selectOf pack (a ++ (101 ∷ b))
+marks-alike pack a b = ap (selectRules (readPack pack)) (number-marks a b)
