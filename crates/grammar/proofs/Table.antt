@@ -43,7 +43,7 @@ abbrev pub _iff_ : Type 0 → Type 0 → Type 0
 A iff B = (A → B) × (B → A)
 
 -- the answer to a pack that is short enough
-abbrev told : List Token → ℕ → PackAnswer
+abbrev pub told : List Token → ℕ → PackAnswer
 told ts end = judge (halt outset ts end) (faults outset ts)
 
 -- ---- 20: "pack over 4,096 bytes"
@@ -61,7 +61,7 @@ row-20 s = (to, λ h. rw (lt-ltb maxBytes (length s) h))
         tested (ltb maxBytes (length s)) (λ k. ltb-true maxBytes (length s) k)
         (λ k. absurd (judged-not-long (halt outset (tokens 0 s) (length s)) (faults outset (tokens 0 s)) (rw (read-whole s, k) at e)))
 
-long-other : {A : Type 0} (s : Text) (a : PackAnswer) → readPack s ≡ a → (Refused PackTooLong ≡ a → ⊥)
+pub long-other : {A : Type 0} (s : Text) (a : PackAnswer) → readPack s ≡ a → (Refused PackTooLong ≡ a → ⊥)
     → (length s ≤ maxBytes → told (tokens 0 s) (length s) ≡ a → A) → A
 long-other s a e unlike f =
     tested (ltb maxBytes (length s))
@@ -356,12 +356,12 @@ pub record Tree (s : Text) (rs : List Rule) : Type 0 where
   pub clean : faults outset (tokens 0 s) ≡ None
   pub rules : rs ≡ map ruleOf (rulesOf tree)
 
-told-read : (p : Parsed) (f : Fault) (rs : List Rule) → judge p f ≡ Rules rs → (qs : List RuleTree) × (p ≡ Trees qs) × (f ≡ None) × (rs ≡ map ruleOf qs)
+pub told-read : (p : Parsed) (f : Fault) (rs : List Rule) → judge p f ≡ Rules rs → (qs : List RuleTree) × (p ≡ Trees qs) × (f ≡ None) × (rs ≡ map ruleOf qs)
 told-read (Bad a) f rs e = absurd (let z : _≡_ {A = ℕ} 0 1 = cc in omega arith)
 told-read (Trees qs) None rs e = (qs, refl, refl, cc)
 told-read (Trees qs) (At n a) rs e = absurd (let z : _≡_ {A = ℕ} 0 1 = cc in omega arith)
 
-long-rules : (rs : List Rule) → Refused PackTooLong ≡ Rules rs → ⊥
+pub long-rules : (rs : List Rule) → Refused PackTooLong ≡ Rules rs → ⊥
 long-rules rs e = let z : _≡_ {A = ℕ} 0 1 = cc in omega arith
 
 -- SOUND and COMPLETE, on bytes: a pack is read exactly where it is short enough and its tokens are those of a right tree without a fault

@@ -71,7 +71,7 @@ conditions-named (Named j ds e ∷ d) k cs c = ap suc (conditions-named d k cs c
 numbers-snoc : (d : List RuleTree) (r : RuleTree) → numbers (d ++ (r ∷ [])) ≡ numbers d ++ (keywordNumber (nameOf r) ∷ [])
 numbers-snoc d r = ap (map keywordNumber) (names-snoc d r) ∙ map-snoc keywordNumber (names d) (nameOf r)
 
-numbers-length : (d : List RuleTree) → length (numbers d) ≡ length (Ds d)
+pub numbers-length : (d : List RuleTree) → length (numbers d) ≡ length (Ds d)
 numbers-length [] = refl
 numbers-length (r ∷ d) = ap suc (numbers-length d)
 
@@ -153,18 +153,23 @@ abbrev pub HeadIs : HeadTree → Current → Type 0
 HeadIs h o =
     (vs : List RangeTree) (v : RangeTree) → relationOf (Rel h vs v) ≡ record { operand = o .operand; modulus = o .modulus; negated = o .negated; ranges = map rangeOf (vs ++ (v ∷ [])) }
 
+-- a value or range takes two bytes at least: itself, and `=` or `,` before it. So there is a byte to spare behind an operand or a value, and one
+-- more before a value
+abbrev pub Spare : ℕ → Counts → ℕ → Type 0
+Spare k c at = 2 * c .ranges + k ≤ at
+
 abbrev pub HoldsAt : List RuleTree → State → Counts → Current → Arrays → ℕ → Type 0
 HoldsAt d WantsName c o a at = Base d none [] c a at
-HoldsAt d (WantsColon k) c o a at = Base d none [] c a at × Keyed d k o
-HoldsAt d (WantsNothing k) c o a at = Base d none [] c a at × Keyed d k o
+HoldsAt d (WantsColon k) c o a at = Base d none [] c a at × Keyed d k o × Spare 1 c at
+HoldsAt d (WantsNothing k) c o a at = Base d none [] c a at × Keyed d k o × Spare 1 c at
 HoldsAt d (WantsOperand f) c o a at = Front·is d f [] c o a at
-HoldsAt d (HasOperand f x) c o a at = Front·is d f [] c o a at × Small f × (o .operand ≡ getD x 0 0) × (o .modulus ≡ 0)
-HoldsAt d (WantsModulus f x) c o a at = Front·is d f [] c o a at × Small f × (o .operand ≡ getD x 0 0)
-HoldsAt d (HasModulus f x m) c o a at = Front·is d f [] c o a at × Small f × (o .operand ≡ getD x 0 0) × (o .modulus ≡ value m)
-HoldsAt d (WantsValue f h vs) c o a at = Front·is d f vs c o a at × Small f × HeadIs h o × (2 * c .ranges + 1 ≤ at)
-HoldsAt d (HasValue f h vs x) c o a at = Front·is d f (vs ++ (One x ∷ [])) c o a at × Small f × HeadIs h o × (o .low ≡ value x)
-HoldsAt d (WantsUpper f h vs x) c o a at = Front·is d f (vs ++ (One x ∷ [])) c o a at × Small f × HeadIs h o × (o .low ≡ value x)
-HoldsAt d (HasUpper f h vs x y) c o a at = Front·is d f (vs ++ (Span x y ∷ [])) c o a at × Small f × HeadIs h o
+HoldsAt d (HasOperand f x) c o a at = Front·is d f [] c o a at × Small f × (o .operand ≡ getD x 0 0) × (o .modulus ≡ 0) × Spare 1 c at
+HoldsAt d (WantsModulus f x) c o a at = Front·is d f [] c o a at × Small f × (o .operand ≡ getD x 0 0) × Spare 1 c at
+HoldsAt d (HasModulus f x m) c o a at = Front·is d f [] c o a at × Small f × (o .operand ≡ getD x 0 0) × (o .modulus ≡ value m) × Spare 1 c at
+HoldsAt d (WantsValue f h vs) c o a at = Front·is d f vs c o a at × Small f × HeadIs h o × Spare 2 c at
+HoldsAt d (HasValue f h vs x) c o a at = Front·is d f (vs ++ (One x ∷ [])) c o a at × Small f × HeadIs h o × (o .low ≡ value x) × Spare 1 c at
+HoldsAt d (WantsUpper f h vs x) c o a at = Front·is d f (vs ++ (One x ∷ [])) c o a at × Small f × HeadIs h o × (o .low ≡ value x) × Spare 1 c at
+HoldsAt d (HasUpper f h vs x y) c o a at = Front·is d f (vs ++ (Span x y ∷ [])) c o a at × Small f × HeadIs h o × Spare 1 c at
 HoldsAt d Dead c o a at = Unit {0}
 
 -- ---- what `and`, `or` and `;` close

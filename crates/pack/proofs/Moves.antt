@@ -27,10 +27,11 @@ use Rattle.grammar.proofs.Viable.{Far, closed, onward}
 use Rattle.grammar.proofs.Whole.{names, faultOn}
 use Rattle.phase.specs.Next.{phaseNumber}
 use Rattle.phase.proofs.Phases.{phaseOf}
-use Rattle.walk.specs.Steps.{capped, held, closesAt, countsAfter, keyAfter, currentAfter, rowAt, keywordNumber, nameRow, upperRow}
+use Rattle.walk.specs.Steps.{capped, held, closesAt, countsAfter, keyAfter, currentAfter, rowAt, moreOf, keywordNumber, nameRow, upperRow}
 use Rattle.walk.specs.declared.Counts.{Counts}
 use Rattle.walk.specs.declared.Current.{Current}
 use Rattle.pack.specs.Board.{Arrays, filled}
+use Rattle.pack.proofs.Flats.{more-is}
 use Rattle.pack.proofs.Tally.{wordRow, name-row, fresh}
 use Rattle.pack.proofs.Holds.{HoldsAt, HeadIs, Base, Keyed, Front·is, Small, numbers, later, begun, add-value, add-upper, close-and, close-or, close-semi, close-bare}
 
@@ -146,7 +147,7 @@ module _ (d : List RuleTree) (c : Counts) (o : Current) (a : Arrays) (at p : ℕ
   onward-front w = record { base = later p l (w .base); keyed = w .keyed; named = w .named }
 
   -- a relation is whole
-  module _ (f : Front) (h : HeadTree) (vs : List RangeTree) (v : RangeTree) (w : Front·is d f (vs ++ (v ∷ [])) c o a at) (z : Small f) (g : HeadIs h o) where
+  module _ (f : Front) (h : HeadTree) (vs : List RangeTree) (v : RangeTree) (w : Front·is d f (vs ++ (v ∷ [])) c o a at) (z : Small f) (g : HeadIs h o) (r : 2 * c .ranges + 1 ≤ at) where
     by-and : Then 8 and (here (WantsOperand (record { name = f .name; clauses = f .clauses; relations = f .relations ++ (Rel h vs v ∷ []) })))
     by-and = record { base = close-and d f h vs v c o a at w z g (capped and) p l; keyed = record { key = w .keyed .key; known = w .keyed .known; new = w .keyed .new }; named = w .named }
 
@@ -157,7 +158,7 @@ module _ (d : List RuleTree) (c : Counts) (o : Current) (a : Arrays) (at p : ℕ
     by-semi = close-semi d f h vs v c o a at w z g (capped semi) p l
 
     by-comma : Then 8 comma (here (WantsValue f h (vs ++ (v ∷ []))))
-    by-comma = (record { base = later p l (w .base); keyed = record { key = w .keyed .key; known = w .keyed .known; new = w .keyed .new }; named = w .named }, z, g, omega (arith, w .base .room))
+    by-comma = (record { base = later p l (w .base); keyed = record { key = w .keyed .key; known = w .keyed .known; new = w .keyed .new }; named = w .named }, z, g, omega (arith, r))
 
   keyed-on : {k : Text} {n : Current} → Keyed d k o → n .key ≡ o .key → Keyed d k n
   keyed-on w e = record { key = e ∙ w .key; known = w .known; new = w .new }
@@ -165,18 +166,22 @@ module _ (d : List RuleTree) (c : Counts) (o : Current) (a : Arrays) (at p : ℕ
   front-on : {f : Front} {vs : List RangeTree} {n : Current} → Front·is d f vs c o a at → n .key ≡ o .key → Front·is d f vs c n a (suc p)
   front-on w e = record { base = later p l (w .base); keyed = keyed-on (w .keyed) e; named = w .named }
 
+  -- one range more, behind a byte of its own
+  spare-value : 2 * c .ranges + 2 ≤ p → 2 * moreOf (c .ranges) + 1 ≤ suc p
+  spare-value h = let e = more-is (c .ranges) (omega arith) in omega arith
+
   -- MOVE: the board behind a token holds what the state behind it says
   pub move : (s : State) (t : Text) → HoldsAt d s c o a at → faultOn (here s) t ≡ 0 → Next s t
   move WantsName t h e =
       choice (Then 0 t) (same t semi) (λ _. tt)
       (λ _. choice (λ (s : State). Then 0 t (here s)) (isWord t)
-      (λ _. let w = fresh t (names d) e in (later p l h, record { key = refl; known = w .0; new = w .1 }))
+      (λ _. let w = fresh t (names d) e in (later p l h, record { key = refl; known = w .0; new = w .1 }, omega (arith, h .room)))
       (λ _. tt))
   move (WantsColon k) t h e =
       choice (Then 1 t) (same t semi) (λ _. tt)
       (λ _. choice (λ (s : State). Then 1 t (here s)) (same t colon)
       (λ _. choice (λ (s : State). Then 1 t (here s)) (same k other)
-      (λ _. (later p l (h .0), keyed-on (h .1) refl))
+      (λ _. (later p l (h .0), keyed-on (h .1) refl, omega (arith, h .2)))
       (λ q. record { base = begun k (later p l (h .0)); keyed = keyed-on (h .1) refl; named = q }))
       (λ _. tt))
   move (WantsNothing k) t h e =
@@ -184,27 +189,27 @@ module _ (d : List RuleTree) (c : Counts) (o : Current) (a : Arrays) (at p : ℕ
       (λ q. choice (Then 2 t) (same t semi) (λ r. not-both r q) (λ _. tt))
   move (WantsOperand f) t h e =
       choice (Then 3 t) (same t semi) (λ _. tt)
-      (λ _. choice (λ (s : State). Then 3 t (here s)) (isOperand t) (λ _. (front-on h refl, small f e, refl, refl)) (λ _. tt))
+      (λ _. choice (λ (s : State). Then 3 t (here s)) (isOperand t) (λ _. (front-on h refl, small f e, refl, refl, omega (arith, h .base .room))) (λ _. tt))
   move (HasOperand f x) t h e =
       choice (Then 4 t) (same t semi) (λ _. tt)
       (λ _. choice (λ (s : State). Then 4 t (here s)) (same t percent)
-      (λ _. (front-on (h .0) refl, h .1, h .2))
+      (λ _. (front-on (h .0) refl, h .1, h .2, omega (arith, h .4)))
       (λ _. choice (λ (s : State). Then 4 t (here s)) (same t equal)
-      (λ q. (front-on (h .0) refl, h .1, head-plain x false (currentAfter o 4 t (capped t) (o .key)) (h .2) (h .3) (ap (λ (u : Text). same u differ) (same-eq t equal q)), omega (arith, h .0 .base .room)))
+      (λ q. (front-on (h .0) refl, h .1, head-plain x false (currentAfter o 4 t (capped t) (o .key)) (h .2) (h .3) (ap (λ (u : Text). same u differ) (same-eq t equal q)), omega (arith, h .4)))
       (λ _. choice (λ (s : State). Then 4 t (here s)) (same t differ)
-      (λ q. (front-on (h .0) refl, h .1, head-plain x true (currentAfter o 4 t (capped t) (o .key)) (h .2) (h .3) q, omega (arith, h .0 .base .room)))
+      (λ q. (front-on (h .0) refl, h .1, head-plain x true (currentAfter o 4 t (capped t) (o .key)) (h .2) (h .3) q, omega (arith, h .4)))
       (λ _. tt))))
   move (WantsModulus f x) t h e =
       choice (Then 5 t) (same t semi) (λ _. tt)
       (λ _. choice (λ (s : State). Then 5 t (here s)) (isNumber t)
-      (λ _. (front-on (h .0) refl, h .1, h .2, modulus-exact t (listed (isModulus (value t)) e)))
+      (λ _. (front-on (h .0) refl, h .1, h .2, modulus-exact t (listed (isModulus (value t)) e), omega (arith, h .3)))
       (λ _. tt))
   move (HasModulus f x n) t h e =
       choice (Then 6 t) (same t semi) (λ _. tt)
       (λ _. choice (λ (s : State). Then 6 t (here s)) (same t equal)
-      (λ q. (front-on (h .0) refl, h .1, head-modulo x n false (currentAfter o 6 t (capped t) (o .key)) (h .2) (h .3) (ap (λ (u : Text). same u differ) (same-eq t equal q)), omega (arith, h .0 .base .room)))
+      (λ q. (front-on (h .0) refl, h .1, head-modulo x n false (currentAfter o 6 t (capped t) (o .key)) (h .2) (h .3) (ap (λ (u : Text). same u differ) (same-eq t equal q)), omega (arith, h .4)))
       (λ _. choice (λ (s : State). Then 6 t (here s)) (same t differ)
-      (λ q. (front-on (h .0) refl, h .1, head-modulo x n true (currentAfter o 6 t (capped t) (o .key)) (h .2) (h .3) q, omega (arith, h .0 .base .room)))
+      (λ q. (front-on (h .0) refl, h .1, head-modulo x n true (currentAfter o 6 t (capped t) (o .key)) (h .2) (h .3) q, omega (arith, h .4)))
       (λ _. tt)))
   move (WantsValue f g vs) t h e =
       let q = fits-value (ltb maxValue (value t)) (ltb (length vs) maxRanges) e in
@@ -220,14 +225,15 @@ module _ (d : List RuleTree) (c : Counts) (o : Current) (a : Arrays) (at p : ℕ
         h .1,
         h .2,
         n,
+        spare-value (omega (arith, h .3)),
       ))
       (λ _. tt))
   move (HasValue f g vs x) t h e =
-      tested (same t dots) (λ q. at-literal (Next (HasValue f g vs x)) t dots q (front-on (h .0) refl, h .1, h .2, h .3))
-      (λ e1. tested (same t comma) (λ q. at-literal (Next (HasValue f g vs x)) t comma q (by-comma f g vs (One x) (h .0) (h .1) (h .2)))
-      (λ e2. tested (same t and) (λ q. at-literal (Next (HasValue f g vs x)) t and q (by-and f g vs (One x) (h .0) (h .1) (h .2)))
-      (λ e3. tested (same t or) (λ q. at-literal (Next (HasValue f g vs x)) t or q (by-or f g vs (One x) (h .0) (h .1) (h .2)))
-      (λ e4. tested (same t semi) (λ q. at-literal (Next (HasValue f g vs x)) t semi q (by-semi f g vs (One x) (h .0) (h .1) (h .2)))
+      tested (same t dots) (λ q. at-literal (Next (HasValue f g vs x)) t dots q (front-on (h .0) refl, h .1, h .2, h .3, omega (arith, h .4)))
+      (λ e1. tested (same t comma) (λ q. at-literal (Next (HasValue f g vs x)) t comma q (by-comma f g vs (One x) (h .0) (h .1) (h .2) (h .4)))
+      (λ e2. tested (same t and) (λ q. at-literal (Next (HasValue f g vs x)) t and q (by-and f g vs (One x) (h .0) (h .1) (h .2) (h .4)))
+      (λ e3. tested (same t or) (λ q. at-literal (Next (HasValue f g vs x)) t or q (by-or f g vs (One x) (h .0) (h .1) (h .2) (h .4)))
+      (λ e4. tested (same t semi) (λ q. at-literal (Next (HasValue f g vs x)) t semi q (by-semi f g vs (One x) (h .0) (h .1) (h .2) (h .4)))
       (λ e5. choice (Then 8 t) (same t semi) (λ q. not-both q e5)
       (λ _. choice (λ (s : State). Then 8 t (here s)) (same t dots) (λ q. not-both q e1)
       (λ _. choice (λ (s : State). Then 8 t (here s)) (same t comma) (λ q. not-both q e2)
@@ -245,13 +251,14 @@ module _ (d : List RuleTree) (c : Counts) (o : Current) (a : Arrays) (at p : ℕ
         },
         h .1,
         h .2,
+        omega (arith, h .4),
       ))
       (λ _. tt))
   move (HasUpper f g vs x y) t h e =
-      tested (same t comma) (λ q. at-literal (Next (HasUpper f g vs x y)) t comma q (by-comma f g vs (Span x y) (h .0) (h .1) (h .2)))
-      (λ e2. tested (same t and) (λ q. at-literal (Next (HasUpper f g vs x y)) t and q (by-and f g vs (Span x y) (h .0) (h .1) (h .2)))
-      (λ e3. tested (same t or) (λ q. at-literal (Next (HasUpper f g vs x y)) t or q (by-or f g vs (Span x y) (h .0) (h .1) (h .2)))
-      (λ e4. tested (same t semi) (λ q. at-literal (Next (HasUpper f g vs x y)) t semi q (by-semi f g vs (Span x y) (h .0) (h .1) (h .2)))
+      tested (same t comma) (λ q. at-literal (Next (HasUpper f g vs x y)) t comma q (by-comma f g vs (Span x y) (h .0) (h .1) (h .2) (h .3)))
+      (λ e2. tested (same t and) (λ q. at-literal (Next (HasUpper f g vs x y)) t and q (by-and f g vs (Span x y) (h .0) (h .1) (h .2) (h .3)))
+      (λ e3. tested (same t or) (λ q. at-literal (Next (HasUpper f g vs x y)) t or q (by-or f g vs (Span x y) (h .0) (h .1) (h .2) (h .3)))
+      (λ e4. tested (same t semi) (λ q. at-literal (Next (HasUpper f g vs x y)) t semi q (by-semi f g vs (Span x y) (h .0) (h .1) (h .2) (h .3)))
       (λ e5. choice (Then 10 t) (same t semi) (λ q. not-both q e5)
       (λ _. choice (λ (s : State). Then 10 t (here s)) (same t comma) (λ q. not-both q e2)
       (λ _. choice (λ (s : State). Then 10 t (here s)) (same t and) (λ q. not-both q e3)

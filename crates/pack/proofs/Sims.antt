@@ -120,7 +120,7 @@ sim-at p c o m a f at q t g e h l k =
           move (p .rules) c o a at q l k (p .state) t (h (or-0 f (faultAt (faultOn p t) q) z)) (fault-none (faultOn p t) q (or-1 f (faultAt (faultOn p t) q) z));
     }
 
-sim-step : (b : Board) (p : Far) (f : Fault) (at q : ℕ) (t : Text) → Sim b p f at → at ≤ q → q ≤ maxBytes
+pub sim-step : (b : Board) (p : Far) (f : Fault) (at q : ℕ) (t : Text) → Sim b p f at → at ≤ q → q ≤ maxBytes
     → Sim (boardAfter b t q) (onward p t) (orElse f (faultAt (faultOn p t) q)) (suc q)
 sim-step b p f at q t h l k =
     let w = b .walk in
@@ -131,7 +131,7 @@ sim-step b p f at q t h l k =
 
 -- ---- all tokens, each behind the one before
 
-abbrev Placed : ℕ → List Token → ℕ → Type 0
+abbrev pub Placed : ℕ → List Token → ℕ → Type 0
 Placed a [] end = a ≤ end
 Placed a (t ∷ ts) end = (a ≤ t .at) × Placed (suc (t .at)) ts end
 
@@ -143,7 +143,7 @@ placed-le : (a : ℕ) (ts : List Token) (end : ℕ) → Placed a ts end → a �
 placed-le a [] end h = h
 placed-le a (t ∷ ts) end h = omega (arith, h .0, placed-le (suc (t .at)) ts end (h .1))
 
-placed : (k a : ℕ) (s : Text) (end : ℕ) → a + length s ≡ end → Placed a (tokensFor k a s) end
+pub placed : (k a : ℕ) (s : Text) (end : ℕ) → a + length s ≡ end → Placed a (tokensFor k a s) end
 placed zero a s end e = omega arith
 placed (suc k) a s end e =
     go (eqb (length s) 0) refl (isWhite s) (tokensFor k (a + pieceLen s) (drop (pieceLen s) s))
@@ -164,7 +164,7 @@ or-none : (f : Fault) → orElse f None ≡ f
 or-none None = refl
 or-none (At n p) = refl
 
-sims : (ts : List Token) (b : Board) (p : Far) (f : Fault) (at end : ℕ) → Sim b p f at → Placed at ts end → end ≤ maxBytes
+pub sims : (ts : List Token) (b : Board) (p : Far) (f : Fault) (at end : ℕ) → Sim b p f at → Placed at ts end → end ≤ maxBytes
     → (n : ℕ) × (n ≤ end) × Sim (boards b ts) (far p (texts ts)) (orElse f (faults p ts)) n
 sims [] b p f at end h g l = (at, g, subst (λ (x : Fault). Sim b p x at) (sym (or-none f)) h)
 sims (t ∷ ts) b p f at end h g l =
@@ -264,7 +264,7 @@ outcome (t ∷ ts) b p end e g v =
 
 -- ---- the whole pack
 
-start : (a : Arrays) → Sized a → Sim (record { walk = startWalk; arrays = a }) outset None 0
+pub start : (a : Arrays) → Sized a → Sim (record { walk = startWalk; arrays = a }) outset None 0
 start a z =
     record {
       phase = refl;

@@ -67,6 +67,11 @@ pub record Tally (ks : List ℕ) (m : ℕ) : Type 0 where
 pub no-tally : Tally [] 0
 no-tally = record { once = λ j. omega arith; total = omega arith; named = omega arith }
 
+-- at most six rules, five of them with a condition
+pub tally-most : (ks : List ℕ) (m : ℕ) → Tally ks m → (length ks ≤ 6) × (m ≤ 5)
+tally-most ks m t =
+    (omega (arith, t .total, t .once 0, t .once 1, t .once 2, t .once 3, t .once 4, t .once 5), omega (arith, t .named, t .once 0, t .once 1, t .once 2, t .once 3, t .once 4))
+
 -- the bits of a number below six, one of which is set
 bits : (x : ℕ) → x < 6 → bit (eqb x 0) + bit (eqb x 1) + bit (eqb x 2) + bit (eqb x 3) + bit (eqb x 4) + bit (eqb x 5) ≡ 1
 bits zero h = refl
