@@ -1,6 +1,6 @@
 -- What a pack that is read has at most: six rules, five of them with a condition, 40 clauses, 320 relations and 2,047 values or ranges.
 use mathlib.Core.Path.{_≡_, refl, sym, ap, _∙_, subst}
-use mathlib.Core.Bool.{Bool, true, false}
+use mathlib.Core.Bool.{Bool, false}
 use mathlib.Core.List.{List, [], _∷_, _++_, map, append-nil}
 use Prim.Native.Nat.{ℕ, suc, _+_, _*_, _≤_, _<_}
 use native.Mathlib.Omega.{arith}
@@ -11,7 +11,7 @@ use Rattle.token.specs.Token.{tokens}
 use Rattle.grammar.specs.Limits.{maxBytes}
 use Rattle.grammar.specs.Grammar.{Text, RuleTree, semi}
 use Rattle.grammar.specs.Grammar.RuleTree.{Bare, Named}
-use Rattle.grammar.specs.RuleOf.{ruleOf, clauseOf}
+use Rattle.grammar.specs.RuleOf.{ruleOf}
 use Rattle.grammar.specs.Steps.{State, Read, ends}
 use Rattle.grammar.specs.Steps.State.{WantsName, WantsColon, WantsNothing, WantsOperand, HasOperand, WantsModulus, HasModulus, WantsValue, HasValue, WantsUpper, HasUpper, Dead}
 use Rattle.grammar.specs.Steps.Read.{Whole, Cut}
@@ -34,7 +34,7 @@ use Rattle.pack.specs.Board.{Arrays, arraysOf, Sized, boards, startWalk,
 use Rattle.pack.proofs.Flats.{flat}
 use Rattle.pack.proofs.Tally.{tally-most}
 use Rattle.pack.proofs.Holds.{HoldsAt, Base, Ds, Cs, Rs, Gs, numbers, numbers-length, none, conditions, closedClauses}
-use Rattle.pack.proofs.Sims.{Sim, start, placed, sims, sim-step}
+use Rattle.pack.proofs.Sims.{start, placed, sims, sim-step}
 
 -- how many rules have a condition
 abbrev pub conditioned : List Rule → ℕ

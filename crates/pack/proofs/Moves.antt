@@ -1,16 +1,16 @@
 -- One token more: its row is the definition's, and the board holds what the state behind it says.
 use mathlib.Core.Path.{_≡_, refl, sym, ap, _∙_, subst}
 use mathlib.Core.Bool.{Bool, true, false}
-use mathlib.Core.List.{List, [], _∷_, _++_, map}
-use Prim.Native.Nat.{ℕ, suc, _+_, _*_, _≤_, _<_, min}
+use mathlib.Core.List.{List, [], _∷_, _++_}
+use Prim.Native.Nat.{ℕ, suc, _+_, _*_, _≤_, _<_}
 use native.Mathlib.Omega.{arith}
 use lib.Dec.{eqb, ltb}
 use lib.ListN.{length, getD, take}
-use borrow.Author.Tests.{eqb-true, eqb-false, ne-eqb, ltb-true, ltb-false, lt-ltb, le-ltb}
+use borrow.Author.Tests.{ne-eqb, ltb-true, ltb-false}
 use Rattle.decimal.specs.Choice.{if_then_else_, both}
 use Rattle.decimal.specs.Digits.{value}
 use Rattle.decimal.proofs.Choices.{choice, tested, not-both, ltb-same}
-use Rattle.token.specs.Spelling.{same, among}
+use Rattle.token.specs.Spelling.{same}
 use Rattle.token.specs.Token.{dots, differ}
 use Rattle.token.proofs.Spellings.{same-eq}
 use Rattle.grammar.specs.Limits.{maxBytes, maxClauses, maxRelations, maxRanges, maxValue, isModulus}
@@ -20,10 +20,10 @@ use Rattle.grammar.specs.Grammar.HeadTree.{Plain, Modulo}
 use Rattle.grammar.specs.Grammar.RelationTree.{Rel}
 use Rattle.grammar.specs.Grammar.ClauseTree.{Joined}
 use Rattle.grammar.specs.Grammar.RuleTree.{Named}
-use Rattle.grammar.specs.Steps.{Front, State, goOn, signed, step, ends}
+use Rattle.grammar.specs.Steps.{Front, State}
 use Rattle.grammar.specs.Steps.State.{WantsName, WantsColon, WantsNothing, WantsOperand, HasOperand, WantsModulus, HasModulus, WantsValue, HasValue, WantsUpper, HasUpper, Dead}
-use Rattle.grammar.specs.Reader.{trouble, keywords}
-use Rattle.grammar.proofs.Viable.{Far, closed, onward}
+use Rattle.grammar.specs.Reader.{trouble}
+use Rattle.grammar.proofs.Viable.{Far, onward}
 use Rattle.grammar.proofs.Whole.{names, faultOn}
 use Rattle.phase.specs.Next.{phaseNumber}
 use Rattle.phase.proofs.Phases.{phaseOf}
@@ -32,8 +32,8 @@ use Rattle.walk.specs.declared.Counts.{Counts}
 use Rattle.walk.specs.declared.Current.{Current}
 use Rattle.pack.specs.Board.{Arrays, filled}
 use Rattle.pack.proofs.Flats.{more-is}
-use Rattle.pack.proofs.Tally.{wordRow, name-row, fresh}
-use Rattle.pack.proofs.Holds.{HoldsAt, HeadIs, Base, Keyed, Front·is, Small, numbers, later, begun, add-value, add-upper, close-and, close-or, close-semi, close-bare}
+use Rattle.pack.proofs.Tally.{name-row, fresh}
+use Rattle.pack.proofs.Holds.{HoldsAt, HeadIs, Keyed, FrontIs, Small, later, begun, add-value, add-upper, close-and, close-or, close-semi, close-bare}
 
 -- ---- values, kept at 1,000,001
 
@@ -143,11 +143,11 @@ module _ (d : List RuleTree) (c : Counts) (o : Current) (a : Arrays) (at p : ℕ
   abbrev Next : State → Text → Type 0
   Next s t = Then (phaseNumber (phaseOf s)) t (onward (here s) t)
 
-  onward-front : {f : Front} {vs : List RangeTree} → Front·is d f vs c o a at → Front·is d f vs c o a (suc p)
+  onward-front : {f : Front} {vs : List RangeTree} → FrontIs d f vs c o a at → FrontIs d f vs c o a (suc p)
   onward-front w = record { base = later p l (w .base); keyed = w .keyed; named = w .named }
 
   -- a relation is whole
-  module _ (f : Front) (h : HeadTree) (vs : List RangeTree) (v : RangeTree) (w : Front·is d f (vs ++ (v ∷ [])) c o a at) (z : Small f) (g : HeadIs h o) (r : 2 * c .ranges + 1 ≤ at) where
+  module _ (f : Front) (h : HeadTree) (vs : List RangeTree) (v : RangeTree) (w : FrontIs d f (vs ++ (v ∷ [])) c o a at) (z : Small f) (g : HeadIs h o) (r : 2 * c .ranges + 1 ≤ at) where
     by-and : Then 8 and (here (WantsOperand (record { name = f .name; clauses = f .clauses; relations = f .relations ++ (Rel h vs v ∷ []) })))
     by-and = record { base = close-and d f h vs v c o a at w z g (capped and) p l; keyed = record { key = w .keyed .key; known = w .keyed .known; new = w .keyed .new }; named = w .named }
 
@@ -163,7 +163,7 @@ module _ (d : List RuleTree) (c : Counts) (o : Current) (a : Arrays) (at p : ℕ
   keyed-on : {k : Text} {n : Current} → Keyed d k o → n .key ≡ o .key → Keyed d k n
   keyed-on w e = record { key = e ∙ w .key; known = w .known; new = w .new }
 
-  front-on : {f : Front} {vs : List RangeTree} {n : Current} → Front·is d f vs c o a at → n .key ≡ o .key → Front·is d f vs c n a (suc p)
+  front-on : {f : Front} {vs : List RangeTree} {n : Current} → FrontIs d f vs c o a at → n .key ≡ o .key → FrontIs d f vs c n a (suc p)
   front-on w e = record { base = later p l (w .base); keyed = keyed-on (w .keyed) e; named = w .named }
 
   -- one range more, behind a byte of its own
