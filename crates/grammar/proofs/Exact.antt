@@ -4,24 +4,20 @@ use mathlib.Core.Bool.{Bool, true, false}
 use mathlib.Core.List.{List, [], _∷_, _++_, append-assoc, append-nil}
 use Prim.Native.Nat.{ℕ}
 use native.Mathlib.Omega.{arith}
-use lib.ListN.{length}
-use Rattle.decimal.specs.Choice.{if_then_else_, both}
-use Rattle.token.specs.Spelling.{same}
-use Rattle.grammar.specs.Grammar.{Text, all}
-use Rattle.grammar.specs.Grammar.{semi, RuleTree, PackTree, each, ofRule, rightRule, ofPack, rightPack}
+use Rattle.decimal.specs.Choice.{if_then_else_}
+use Rattle.grammar.specs.Grammar.{Text, all, semi, RuleTree, PackTree, each, ofRule, rightRule, ofPack, rightPack}
 use Rattle.grammar.specs.Grammar.PackTree.{Parted}
-use Rattle.grammar.specs.Steps.{State, step, steps, Read, ends}
+use Rattle.grammar.specs.Steps.{steps, Read, ends}
 use Rattle.grammar.specs.Steps.State.{WantsName}
 use Rattle.grammar.specs.Steps.Read.{Whole, Cut}
 use Rattle.token.specs.Token.{Token}
 use Rattle.grammar.specs.Reader.{segments, isDead, Parsed, rulesFrom}
 use Rattle.grammar.specs.Reader.Parsed.{Trees, Bad}
 use Rattle.token.proofs.Spellings.{both-0, both-1, both-in}
-use Rattle.grammar.proofs.Laws.{no-way}
 use Rattle.grammar.proofs.Sound.{told-rule}
 use Rattle.grammar.proofs.Complete.{complete}
 use Rattle.grammar.proofs.Places.{texts}
-use Rattle.grammar.proofs.Viable.{Far, onward, closed, far, outset, far-append, far-rule, whole-alive, alive-before, been, WellFormed, halt, last, behind, same-halt, plain-segments, some-segments, firstOf, othersOf, packTokens, packEnd, tokensOf}
+use Rattle.grammar.proofs.Viable.{Far, onward, closed, far, outset, far-append, far-rule, whole-alive, alive-before, been, halt, last, behind, same-halt, plain-segments, some-segments, firstOf, othersOf, packEnd, tokensOf}
 
 -- the rules of a pack, in their order
 abbrev pub rulesOf : PackTree → List RuleTree

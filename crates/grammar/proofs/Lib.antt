@@ -8,3 +8,4 @@ pub mod Exact
 pub mod Rows
 pub mod Whole
 pub mod Table
+pub mod Prefix

@@ -1,17 +1,14 @@
 -- A segment's rule and its faults do not depend on where it stands.
 use mathlib.Core.Path.{_≡_, refl, sym, ap, _∙_}
-use mathlib.Core.Bool.{Bool, true, false}
-use mathlib.Core.List.{List, [], _∷_, _++_, map}
+use mathlib.Core.Bool.{Bool, true, false, not}
+use mathlib.Core.List.{List, [], _∷_}
 use Prim.Native.Nat.{ℕ, zero, suc, _+_}
 use native.Mathlib.Omega.{arith}
 use lib.Dec.{eqb}
 use lib.ListN.{length, take, drop}
-use borrow.Author.Tests.{eqb-true, eqb-false}
-use mathlib.Core.Bool.{not}
 use Rattle.decimal.specs.Choice.{if_then_else_, both}
-use Rattle.token.specs.Spelling.{same, among}
-use Rattle.grammar.specs.Grammar.{Text, all}
-use Rattle.grammar.specs.Grammar.{RuleTree}
+use Rattle.token.specs.Spelling.{among}
+use Rattle.grammar.specs.Grammar.{Text, RuleTree}
 use Rattle.grammar.specs.Steps.{State, step, steps, Read, ends}
 use Rattle.grammar.specs.Steps.State.{WantsName, WantsColon, WantsNothing, WantsOperand, HasOperand, WantsModulus, HasModulus, WantsValue, HasValue, WantsUpper, HasUpper, Dead}
 use Rattle.grammar.specs.Steps.Read.{Whole, Cut}

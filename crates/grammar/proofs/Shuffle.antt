@@ -1,25 +1,22 @@
 -- What a pack that is read gives: the rule of each segment. So a shuffle of it is read too, and a larger pack's rules are its own and the added ones.
 use mathlib.Core.Path.{_≡_, refl, sym, ap, _∙_}
-use mathlib.Core.Bool.{Bool, true, false}
+use mathlib.Core.Bool.{Bool, true, false, not}
 use mathlib.Core.List.{List, [], _∷_, _++_, map, List·Permᴰ, List·Permᴰ·nil, List·Permᴰ·cons, List·Permᴰ·swap, List·Permᴰ·trans}
-use Prim.Native.Nat.{ℕ, zero, suc, _+_, _≤_, _<_}
+use Prim.Native.Nat.{ℕ, suc, _+_, _≤_, _<_}
 use native.Mathlib.Omega.{arith}
-use native.Mathlib.Numerals.{add-one}
 use lib.Dec.{eqb, ltb}
-use lib.ListN.{length, length-append}
+use lib.ListN.{length}
 use borrow.Author.Tests.{eqb-true, eqb-false, eq-eqb, ne-eqb, ltb-false, le-ltb}
-use mathlib.Core.Bool.{not}
 use Rattle.decimal.specs.Choice.{if_then_else_, both}
 use Rattle.token.specs.Spelling.{same, among}
-use Rattle.grammar.specs.Grammar.{Text, all}
-use Rattle.grammar.specs.Grammar.{RuleTree}
-use Rattle.grammar.specs.Grammar.RuleTree.{Bare, Named}
-use Rattle.grammar.specs.Steps.{State, step, steps, Read, ends}
+use Rattle.grammar.specs.Grammar.{Text, all, RuleTree}
+use Rattle.grammar.specs.Grammar.RuleTree.{Bare}
+use Rattle.grammar.specs.Steps.{steps, Read, ends}
 use Rattle.grammar.specs.Steps.State.{WantsName}
 use Rattle.grammar.specs.Steps.Read.{Whole, Cut}
 use Rattle.grammar.specs.Limits.{maxBytes}
-use Rattle.token.specs.Token.{Token, tokens}
-use Rattle.grammar.specs.Reader.{onFirst, segments, Stop, stop, Fault, orElse, faultIn, again, keywordIn, Parsed, andThen, rulesFrom, faultFrom, PackAnswer, judge, readPack}
+use Rattle.token.specs.Token.{tokens}
+use Rattle.grammar.specs.Reader.{onFirst, segments, Stop, stop, Fault, faultIn, again, keywordIn, Parsed, andThen, rulesFrom, faultFrom, judge, readPack}
 use Rattle.grammar.specs.Reader.Stop.{Fine, Stuck}
 use Rattle.grammar.specs.Reader.Fault.{None, At}
 use Rattle.grammar.specs.Reader.Parsed.{Trees, Bad}
@@ -27,7 +24,6 @@ use Rattle.grammar.specs.Reader.PackAnswer.{Rules, Refused}
 use Rattle.grammar.specs.RuleOf.{ruleOf}
 use Rattle.answer.specs.declared.Refusal.the-variants.{PackTooLong}
 use Rattle.rules.specs.Syntax.{Rule}
-use Rattle.decimal.proofs.Choices.{choice}
 use Rattle.token.proofs.Spellings.{both-0, both-1, both-in}
 use Rattle.grammar.proofs.Laws.{no-way}
 use Rattle.grammar.proofs.Places.{words, words-at, fine-whole, whole-fine, clean, or-0, or-1, none-clean, clean-none, firstOf, keyword-first, fresh, again-fresh, fresh-again}

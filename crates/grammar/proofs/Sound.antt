@@ -1,25 +1,21 @@
 -- Whatever the steps have read is what a tree has for its tokens.
-use mathlib.Core.Path.{_≡_, refl, sym, ap, _∙_}
-use mathlib.Core.Bool.{Bool, true, false}
+use mathlib.Core.Path.{_≡_, refl, ap, _∙_}
+use mathlib.Core.Bool.{Bool, true, false, not}
 use mathlib.Core.List.{List, [], _∷_, _++_, append-assoc, append-nil}
-use Prim.Native.Nat.{ℕ}
-use mathlib.Core.Bool.{not}
-use Rattle.decimal.specs.Choice.{if_then_else_, both}
-use Rattle.token.specs.Spelling.{same, among}
-use Rattle.grammar.specs.Grammar.{Text, all}
-use Rattle.grammar.specs.Grammar.{colon, semi, comma, percent, equal, and, or, other, isWord, isNumber, isOperand, RangeTree, HeadTree, RelationTree, ClauseTree, RuleTree, sign, each, ofRange, ofHead, ofRelation, ofClause, ofRule, rightRange, rightHead, rightRelation, rightClause, rightRule}
+use Rattle.token.specs.Spelling.{same}
+use Rattle.grammar.specs.Grammar.{Text, all, colon, comma, percent, equal, and, or, other, isWord, isNumber, isOperand, RangeTree, HeadTree, RelationTree, ClauseTree, RuleTree, sign, each, ofRange, ofHead, ofRelation, ofClause, ofRule, rightRange, rightHead, rightRelation, rightClause, rightRule}
 use Rattle.token.specs.Token.{differ, dots}
 use Rattle.grammar.specs.Grammar.RangeTree.{One, Span}
 use Rattle.grammar.specs.Grammar.HeadTree.{Plain, Modulo}
 use Rattle.grammar.specs.Grammar.RelationTree.{Rel}
 use Rattle.grammar.specs.Grammar.ClauseTree.{Joined}
-use Rattle.grammar.specs.Grammar.RuleTree.{Bare, Named}
+use Rattle.grammar.specs.Grammar.RuleTree.{Named}
 use Rattle.grammar.specs.Steps.{Front, State, goOn, signed, step, steps, Read, ends}
 use Rattle.grammar.specs.Steps.State.{WantsName, WantsColon, WantsNothing, WantsOperand, HasOperand, WantsModulus, HasModulus, WantsValue, HasValue, WantsUpper, HasUpper, Dead}
 use Rattle.grammar.specs.Steps.Read.{Whole, Cut}
 use Rattle.decimal.proofs.Choices.{choice}
-use Rattle.token.proofs.Spellings.{both-0, both-1, both-in, same-eq}
-use Rattle.grammar.proofs.Laws.{no-way, each-snoc, all-snoc}
+use Rattle.token.proofs.Spellings.{both-in, same-eq}
+use Rattle.grammar.proofs.Laws.{each-snoc, all-snoc}
 
 unfoldable pub ofFront : Front → List Text
 ofFront f = f .name ∷ colon ∷ (each ofClause or (f .clauses) ++ each ofRelation and (f .relations))

@@ -7,13 +7,13 @@ use Prim.Native.Nat.{ℕ, _≤_, _<_}
 use native.Mathlib.Omega.{arith}
 use lib.Dec.{eqb, ltb}
 use lib.ListN.{length, getD}
-use borrow.Author.Tests.{ltb-true, ltb-false, lt-ltb, le-ltb, eqb-true, eqb-false, eq-eqb, ne-eqb}
+use borrow.Author.Tests.{ltb-true, ltb-false, lt-ltb, le-ltb, eqb-true, eqb-false, ne-eqb}
 use Rattle.decimal.specs.Choice.{if_then_else_, both}
 use Rattle.decimal.specs.Digits.{value}
-use Rattle.decimal.proofs.Choices.{choice, tested, not-both}
+use Rattle.decimal.proofs.Choices.{choice, tested}
 use Rattle.answer.specs.Table.{packRow, figuresOf}
 use Rattle.answer.specs.declared.PackRow.{PackRow}
-use Rattle.answer.specs.declared.PackRow.the-variants.{NotAPack, ValueTooLarge, UnlistedModulus, RangeReversed, BadKeyword, TooMany}
+use Rattle.answer.specs.declared.PackRow.the-variants.{NotAPack}
 use Rattle.answer.specs.declared.Refusal.the-variants.{PackTooLong}
 use Rattle.rules.specs.Syntax.{Rule}
 use Rattle.token.specs.Spelling.{among}
@@ -26,13 +26,12 @@ use Rattle.grammar.specs.RuleOf.{ruleOf}
 use Rattle.grammar.specs.Steps.{State, Read, ends}
 use Rattle.grammar.specs.Steps.State.{WantsName, WantsColon, WantsNothing, WantsOperand, HasOperand, WantsModulus, HasModulus, WantsValue, HasValue, WantsUpper, HasUpper, Dead}
 use Rattle.grammar.specs.Steps.Read.{Whole, Cut}
-use Rattle.grammar.specs.Reader.{isDead, segments, rulesFrom, keywords, Parsed, trouble, Fault, orElse, faultAt, rowOf, PackAnswer, refusedAt, judge, readPack}
+use Rattle.grammar.specs.Reader.{isDead, keywords, Parsed, trouble, Fault, orElse, faultAt, rowOf, PackAnswer, refusedAt, judge, readPack}
 use Rattle.grammar.specs.Reader.Parsed.{Trees, Bad}
 use Rattle.grammar.specs.Reader.Fault.{None, At}
 use Rattle.grammar.specs.Reader.PackAnswer.{Rules, Refused}
-use Rattle.grammar.proofs.Laws.{no-way}
 use Rattle.grammar.proofs.Places.{texts, or-0, or-1}
-use Rattle.grammar.proofs.Viable.{Far, onward, outset, far, halt, last, alive-before, viable, never, not-ended, whole-alive, Begins, WellFormed, Culprit, Unfinished, There, AtEnd, halts, been, behind}
+use Rattle.grammar.proofs.Viable.{Far, onward, outset, far, halt, alive-before, viable, never, not-ended, whole-alive, Begins, WellFormed, Culprit, Unfinished, There, AtEnd, halts, been, behind}
 use Rattle.grammar.proofs.Exact.{ended, rulesOf, complete-pack}
 use Rattle.grammar.proofs.Sound.{told-rule}
 use Rattle.grammar.proofs.Whole.{faultOn, faults, isName, names, tokens-whole, halt-whole, read-whole}
@@ -43,7 +42,7 @@ abbrev pub _iff_ : Type 0 → Type 0 → Type 0
 A iff B = (A → B) × (B → A)
 
 -- the answer to a pack that is short enough
-abbrev told : List Token → ℕ → PackAnswer
+abbrev pub told : List Token → ℕ → PackAnswer
 told ts end = judge (halt outset ts end) (faults outset ts)
 
 -- ---- 20: "pack over 4,096 bytes"
@@ -61,7 +60,7 @@ row-20 s = (to, λ h. rw (lt-ltb maxBytes (length s) h))
         tested (ltb maxBytes (length s)) (λ k. ltb-true maxBytes (length s) k)
         (λ k. absurd (judged-not-long (halt outset (tokens 0 s) (length s)) (faults outset (tokens 0 s)) (rw (read-whole s, k) at e)))
 
-long-other : {A : Type 0} (s : Text) (a : PackAnswer) → readPack s ≡ a → (Refused PackTooLong ≡ a → ⊥)
+pub long-other : {A : Type 0} (s : Text) (a : PackAnswer) → readPack s ≡ a → (Refused PackTooLong ≡ a → ⊥)
     → (length s ≤ maxBytes → told (tokens 0 s) (length s) ≡ a → A) → A
 long-other s a e unlike f =
     tested (ltb maxBytes (length s))
@@ -108,7 +107,7 @@ halts-at-end : (p : Far) (ts : List Token) (end : ℕ) → isDead (far p (texts 
 halts-at-end p [] end v c = rw c
 halts-at-end p (t ∷ ts) end v c = rw (alive-before (onward p (t .text)) (texts ts) v) (halts-at-end (onward p (t .text)) ts end v c)
 
-begins-alive : (us : List Text) → Begins us → isDead (far outset us .state) ≡ false
+pub begins-alive : (us : List Text) → Begins us → isDead (far outset us .state) ≡ false
 begins-alive us b = tested (isDead (far outset us .state)) (λ k. absurd (never us k b)) (λ k. k)
 
 stopped : (ts : List Token) (end a : ℕ) → Culprit ts a ⊎ Unfinished ts end a → halt outset ts end ≡ Bad a
@@ -356,12 +355,12 @@ pub record Tree (s : Text) (rs : List Rule) : Type 0 where
   pub clean : faults outset (tokens 0 s) ≡ None
   pub rules : rs ≡ map ruleOf (rulesOf tree)
 
-told-read : (p : Parsed) (f : Fault) (rs : List Rule) → judge p f ≡ Rules rs → (qs : List RuleTree) × (p ≡ Trees qs) × (f ≡ None) × (rs ≡ map ruleOf qs)
+pub told-read : (p : Parsed) (f : Fault) (rs : List Rule) → judge p f ≡ Rules rs → (qs : List RuleTree) × (p ≡ Trees qs) × (f ≡ None) × (rs ≡ map ruleOf qs)
 told-read (Bad a) f rs e = absurd (let z : _≡_ {A = ℕ} 0 1 = cc in omega arith)
 told-read (Trees qs) None rs e = (qs, refl, refl, cc)
 told-read (Trees qs) (At n a) rs e = absurd (let z : _≡_ {A = ℕ} 0 1 = cc in omega arith)
 
-long-rules : (rs : List Rule) → Refused PackTooLong ≡ Rules rs → ⊥
+pub long-rules : (rs : List Rule) → Refused PackTooLong ≡ Rules rs → ⊥
 long-rules rs e = let z : _≡_ {A = ℕ} 0 1 = cc in omega arith
 
 -- SOUND and COMPLETE, on bytes: a pack is read exactly where it is short enough and its tokens are those of a right tree without a fault

@@ -1,31 +1,27 @@
 -- The place of refusal 21: no well-formed pack begins with the tokens up to and including the one there, and some does with those before it.
 use mathlib.Core.Path.{_≡_, refl, sym, ap, _∙_}
-use mathlib.Core.Bool.{Bool, true, false}
+use mathlib.Core.Bool.{Bool, true, false, not}
 use mathlib.Core.List.{List, [], _∷_, _++_, append-assoc, append-nil}
 use mathlib.Core.Logic.{_⊎_, inl, inr}
 use Prim.Native.Nat.{ℕ, zero, suc, _+_}
 use native.Mathlib.Omega.{arith}
 use lib.Dec.{eqb}
 use lib.ListN.{length, take, drop}
-use mathlib.Core.Bool.{not}
-use Rattle.decimal.specs.Choice.{if_then_else_, both}
-use Rattle.token.specs.Spelling.{same, among}
-use Rattle.grammar.specs.Grammar.{Text, all}
-use Rattle.grammar.specs.Grammar.{colon, semi, comma, percent, equal, and, or, other, isWord, isNumber, isOperand, RangeTree, HeadTree, RelationTree, ClauseTree, RuleTree, PackTree, each, ofRule, rightRule, ofPack, rightPack}
-use Rattle.token.specs.Token.{differ, dots}
+use Rattle.decimal.specs.Choice.{if_then_else_}
+use Rattle.token.specs.Spelling.{same}
+use Rattle.grammar.specs.Grammar.{Text, all, colon, semi, equal, other, RuleTree, PackTree, each, ofRule, rightRule, ofPack, rightPack}
+use Rattle.token.specs.Token.{Token, tokensFor, tokens, pieceLen, isWhite}
 use Rattle.grammar.specs.Grammar.PackTree.{Parted}
-use Rattle.grammar.specs.Steps.{Front, State, step, steps, Read, ends}
+use Rattle.grammar.specs.Steps.{State, step, steps, Read, ends}
 use Rattle.grammar.specs.Steps.State.{WantsName, WantsColon, WantsNothing, WantsOperand, HasOperand, WantsModulus, HasModulus, WantsValue, HasValue, WantsUpper, HasUpper, Dead}
 use Rattle.grammar.specs.Steps.Read.{Whole, Cut}
-use Rattle.token.specs.Token.{Token, tokensFor, tokens, pieceLen, isWhite}
 use Rattle.grammar.specs.Reader.{onFirst, segments, isDead, Stop, atEnd, stop, Parsed, andThen, rulesFrom}
 use Rattle.grammar.specs.Reader.Stop.{Fine, Stuck}
 use Rattle.grammar.specs.Reader.Parsed.{Trees, Bad}
-use Rattle.decimal.proofs.Choices.{choice}
-use Rattle.token.proofs.Spellings.{both-0, both-1, both-in, same-eq, same-refl}
+use Rattle.token.proofs.Spellings.{both-0, both-1, both-in, same-eq}
 use Rattle.grammar.proofs.Laws.{no-way, each-snoc, all-snoc}
-use Rattle.grammar.proofs.Sound.{Reached, reaches, arrives, sound, told-rule}
-use Rattle.grammar.proofs.Complete.{steps-append, complete}
+use Rattle.grammar.proofs.Sound.{Reached, reaches, arrives, told-rule}
+use Rattle.grammar.proofs.Complete.{complete}
 use Rattle.grammar.proofs.Places.{texts, dead-stays, dead-is}
 
 -- A whole pack read token by token: the rules that are whole, and the state in the one being read.
@@ -105,7 +101,7 @@ number = 49 ∷ []
 abbrev letter : Text
 letter = 110 ∷ []
 
-abbrev ending : State → List Text
+abbrev pub ending : State → List Text
 ending WantsName = other ∷ colon ∷ []
 ending (WantsColon k) = if same k other then colon ∷ [] else colon ∷ letter ∷ equal ∷ number ∷ []
 ending (WantsNothing k) = []
@@ -152,21 +148,22 @@ WellFormed us = (p : PackTree) × (rightPack p ≡ true) × (us ≡ ofPack p)
 abbrev pub Begins : List Text → Type 0
 Begins us = (rest : List Text) × WellFormed (us ++ rest)
 
--- some pack begins with tokens that are read and leave the state alive
-pub viable : (us : List Text) → isDead (far outset us .state) ≡ false → Begins us
-viable us e =
+-- tokens that are read and leave the state alive, and what ends the rule being read, are a well-formed pack
+pub viable-by : (us : List Text) → isDead (far outset us .state) ≡ false → WellFormed (us ++ ending (far outset us .state))
+viable-by us e =
     let p = far outset us in
     let b = been outset [] us e ([], refl, refl, refl) in
     let s = p .state in
     let c = some-rule (ends (steps s (ending s))) (can-end s e) in
     let w = told-rule (steps s (ending s)) (b .0 ++ ending s) (c .0) (c .1) (arrives s (b .0) (ending s) (b .2)) in (
-      ending s,
-      (
-        Parted (p .rules) (c .0),
-        both-in (b .3) (w .1),
-        ap (λ (l : List Text). l ++ ending s) (b .1) ∙ append-assoc (each ofRule semi (p .rules)) (b .0) (ending s) ∙ ap (λ (l : List Text). each ofRule semi (p .rules) ++ l) (w .0),
-      ),
+      Parted (p .rules) (c .0),
+      both-in (b .3) (w .1),
+      ap (λ (l : List Text). l ++ ending s) (b .1) ∙ append-assoc (each ofRule semi (p .rules)) (b .0) (ending s) ∙ ap (λ (l : List Text). each ofRule semi (p .rules) ++ l) (w .0),
     )
+
+-- some pack begins with tokens that are read and leave the state alive
+pub viable : (us : List Text) → isDead (far outset us .state) ≡ false → Begins us
+viable us e = (ending (far outset us .state), viable-by us e)
 
 -- Complete
 semi-dead : (s : State) → step s semi ≡ Dead

@@ -1,19 +1,19 @@
 -- A pack read whole, token by token with `;` among the tokens, is read as its segments are.
 use mathlib.Core.Path.{_≡_, refl, sym, ap, _∙_}
 use mathlib.Core.Bool.{Bool, true, false, not}
-use mathlib.Core.List.{List, [], _∷_, _++_, map, append-assoc, append-nil}
-use Prim.Native.Nat.{ℕ, zero, suc, _+_, _-_, _≤_, _<_}
+use mathlib.Core.List.{List, [], _∷_, _++_, append-nil}
+use Prim.Native.Nat.{ℕ, zero, suc, _+_, _-_, _≤_}
 use native.Mathlib.Omega.{arith}
 use lib.Dec.{eqb, ltb}
-use lib.ListN.{length, getD, take, drop, length-append, length-drop}
+use lib.ListN.{length, take, drop, length-drop}
 use lib.Seq.{take-append-le, drop-append-le}
-use borrow.Author.Tests.{ne-eqb, eqb-true, eqb-false, ltb-false}
+use borrow.Author.Tests.{ne-eqb, eqb-true, eqb-false}
 use Rattle.decimal.specs.Choice.{if_then_else_, both}
 use Rattle.decimal.specs.Digits.{isDigit, run}
-use Rattle.decimal.proofs.Choices.{choice, tested}
+use Rattle.decimal.proofs.Choices.{choice}
 use Rattle.token.specs.Spelling.{same, among, starts, lengthOf}
-use Rattle.token.specs.Token.{whites, whiteLen, isWhite, isLetter, letters, dots, differ, tokenLen, pieceLen, Token, tokens}
-use Rattle.token.proofs.Spellings.{both-0, both-1, both-in, same-eq}
+use Rattle.token.specs.Token.{whites, whiteLen, isWhite, isLetter, letters, dots, differ, pieceLen, Token, tokens}
+use Rattle.token.proofs.Spellings.{both-0, both-1}
 use Rattle.token.proofs.Pieces.{piece, pieced, tokens-turn}
 use Rattle.grammar.specs.Limits.{maxBytes}
 use Rattle.grammar.specs.Grammar.{Text, all, semi, colon, comma, percent, equal, and, or, other, isWord, isNumber, isOperand, RangeTree, HeadTree, RuleTree, ofRule}
@@ -22,14 +22,12 @@ use Rattle.grammar.specs.Grammar.HeadTree.{Plain, Modulo}
 use Rattle.grammar.specs.Grammar.RuleTree.{Bare, Named}
 use Rattle.grammar.specs.Steps.{Front, State, goOn, signed, step, steps, Read, ends}
 use Rattle.grammar.specs.Steps.State.{WantsName, WantsColon, WantsNothing, WantsOperand, HasOperand, WantsModulus, HasModulus, WantsValue, HasValue, WantsUpper, HasUpper, Dead}
-use Rattle.grammar.specs.Steps.Read.{Whole, Cut}
-use Rattle.grammar.specs.Reader.{PackAnswer, onFirst, segments, isDead, Stop, stop, Parsed, andThen, rulesFrom, trouble, Fault, orElse, faultAt, faultIn, keywordIn, again, faultFrom, judge, readPack, refusedAt}
-use Rattle.grammar.specs.Reader.Stop.{Fine, Stuck}
+use Rattle.grammar.specs.Steps.Read.{Whole}
+use Rattle.grammar.specs.Reader.{PackAnswer, onFirst, segments, stop, Parsed, rulesFrom, trouble, Fault, orElse, faultAt, faultIn, keywordIn, again, faultFrom, judge, readPack}
 use Rattle.grammar.specs.Reader.Parsed.{Trees, Bad}
 use Rattle.grammar.specs.Reader.Fault.{None, At}
 use Rattle.grammar.specs.Reader.PackAnswer.{Refused}
 use Rattle.answer.specs.declared.Refusal.the-variants.{PackTooLong}
-use Rattle.grammar.proofs.Laws.{no-way}
 use Rattle.grammar.proofs.Sound.{sound}
 use Rattle.grammar.proofs.Places.{texts, fine-whole}
 use Rattle.grammar.proofs.Shuffle.{then-fine}

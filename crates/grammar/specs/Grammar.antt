@@ -1,5 +1,5 @@
 -- The pack grammar of document 01, over tokens, from tree to tokens: a well-formed pack is the tokens of some right tree. A token is its bytes.
-use mathlib.Core.Bool.{Bool, true, false, not}
+use mathlib.Core.Bool.{Bool, true, not}
 use mathlib.Core.List.{List, [], _∷_, _++_}
 use Prim.Native.Nat.{ℕ}
 use lib.ListN.{getD}

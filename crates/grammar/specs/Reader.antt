@@ -18,7 +18,7 @@ use Rattle.token.specs.Token.{Token, tokens}
 use Rattle.grammar.specs.Limits.{maxBytes, maxClauses, maxRelations, maxRanges, maxValue, isModulus}
 use Rattle.grammar.specs.Grammar.{Text, RuleTree}
 use Rattle.grammar.specs.RuleOf.{ruleOf}
-use Rattle.grammar.specs.Steps.{Front, State, step, Read, ends}
+use Rattle.grammar.specs.Steps.{State, step, Read, ends}
 use Rattle.grammar.specs.Steps.State.{WantsName, WantsColon, WantsNothing, WantsOperand, HasOperand, WantsModulus, HasModulus, WantsValue, HasValue, WantsUpper, HasUpper, Dead}
 use Rattle.grammar.specs.Steps.Read.{Whole, Cut}
 

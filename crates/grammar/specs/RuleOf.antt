@@ -1,7 +1,5 @@
 -- The rules that trees stand for.
-use mathlib.Core.Bool.{Bool}
 use mathlib.Core.List.{List, [], _∷_, _++_, map}
-use Prim.Native.Nat.{ℕ}
 use lib.ListN.{getD}
 use Rattle.decimal.specs.Choice.{if_then_else_}
 use Rattle.decimal.specs.Digits.{value}
@@ -10,7 +8,7 @@ use Rattle.answer.specs.declared.Keyword.{Keyword}
 use Rattle.answer.specs.declared.Keyword.the-variants.{Zero, One as OneWord, Two, Few, Many, Other}
 use Rattle.rules.specs.Syntax.{Range, Relation, Rule}
 use Rattle.token.specs.Spelling.{same}
-use Rattle.grammar.specs.Grammar.{Text, RangeTree, HeadTree, RelationTree, ClauseTree, RuleTree}
+use Rattle.grammar.specs.Grammar.{Text, RangeTree, RelationTree, ClauseTree, RuleTree}
 use Rattle.grammar.specs.Grammar.RangeTree.{One, Span}
 use Rattle.grammar.specs.Grammar.HeadTree.{Plain, Modulo}
 use Rattle.grammar.specs.Grammar.RelationTree.{Rel}

@@ -1,12 +1,9 @@
 -- Reading the tokens of one segment, one after the other: what has been read, and what may follow.
 use mathlib.Core.Bool.{Bool, true, false}
 use mathlib.Core.List.{List, [], _∷_, _++_}
-use Prim.Native.Nat.{ℕ}
-use mathlib.Core.Bool.{not}
-use Rattle.decimal.specs.Choice.{if_then_else_, both}
-use Rattle.token.specs.Spelling.{same, among}
-use Rattle.grammar.specs.Grammar.{Text, all}
-use Rattle.grammar.specs.Grammar.{colon, semi, comma, percent, equal, and, or, other, isWord, isNumber, isOperand, RangeTree, HeadTree, RelationTree, ClauseTree, RuleTree, sign}
+use Rattle.decimal.specs.Choice.{if_then_else_}
+use Rattle.token.specs.Spelling.{same}
+use Rattle.grammar.specs.Grammar.{Text, colon, comma, percent, equal, and, or, other, isWord, isNumber, isOperand, RangeTree, HeadTree, RelationTree, ClauseTree, RuleTree}
 use Rattle.token.specs.Token.{differ, dots}
 use Rattle.grammar.specs.Grammar.RangeTree.{One, Span}
 use Rattle.grammar.specs.Grammar.HeadTree.{Plain, Modulo}

@@ -1,15 +1,13 @@
 -- Lists held flat: arrays filled from the front, the ends of lists put one behind the other, and reading them back.
 use mathlib.Core.Path.{_≡_, refl, sym, ap, _∙_}
-use mathlib.Core.Bool.{Bool, true, false}
+use mathlib.Core.Bool.{Bool}
 use mathlib.Core.List.{List, [], _∷_, _++_, map, append-assoc, append-nil}
 use Prim.Native.Nat.{ℕ, zero, suc, _+_, _-_, _≤_, _<_}
 use native.Mathlib.Omega.{arith}
 use native.Mathlib.Numerals.{add-one}
-use lib.Dec.{ltb}
-use lib.ListN.{length, take, drop, set, length-set, length-append}
+use lib.ListN.{length, take, drop, set, length-append}
 use lib.Seq.{take-suc-set, take-set-lt, length-take-le, set-append-seam, take-at, drop-at}
 use borrow.Author.Tests.{lt-ltb}
-use Rattle.decimal.specs.Choice.{if_then_else_}
 use Rattle.answer.specs.declared.Keyword.{Keyword}
 use Rattle.rules.specs.Syntax.{Range, Relation, Rule}
 use Rattle.rules.specs.Held.{parts, keywordOf, rangesFrom, relationsFrom, rulesFrom, heldRules}

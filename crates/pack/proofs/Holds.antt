@@ -4,8 +4,7 @@ use mathlib.Core.Bool.{Bool, true, false}
 use mathlib.Core.List.{List, [], _∷_, _++_, map, append-assoc, append-nil}
 use Prim.Native.Nat.{ℕ, suc, _+_, _*_, _-_, _≤_, _<_}
 use native.Mathlib.Omega.{arith}
-use lib.ListN.{length, getD, take, set, length-set, length-append}
-use Rattle.decimal.specs.Choice.{if_then_else_}
+use lib.ListN.{length, getD, set, length-set, length-append}
 use Rattle.decimal.specs.Digits.{value}
 use Rattle.rules.specs.Syntax.{Range, Relation, Rule}
 use Rattle.rules.specs.Held.{keywordOf}
@@ -25,7 +24,7 @@ use Rattle.walk.specs.declared.Closes.{Closes}
 use Rattle.walk.specs.declared.Counts.{Counts}
 use Rattle.walk.specs.declared.Current.{Current}
 use Rattle.pack.specs.Board.{Arrays, Sized, filled}
-use Rattle.pack.proofs.Flats.{more-is, flat, flat-snoc, flat-append, map-snoc, Ranges, Relations, Clauses, Rules}
+use Rattle.pack.proofs.Flats.{more-is, flat, flat-snoc, map-snoc, Ranges, Relations, Clauses, Rules}
 use Rattle.pack.proofs.Levels.{ranges-more, ranges-last, relations-more, clauses-more, rules-more}
 use Rattle.pack.proofs.Tally.{Tally, tally-bare, tally-named, tally-room, tally-conditions, keyword-number, number-other}
 
@@ -71,7 +70,7 @@ conditions-named (Named j ds e ∷ d) k cs c = ap suc (conditions-named d k cs c
 numbers-snoc : (d : List RuleTree) (r : RuleTree) → numbers (d ++ (r ∷ [])) ≡ numbers d ++ (keywordNumber (nameOf r) ∷ [])
 numbers-snoc d r = ap (map keywordNumber) (names-snoc d r) ∙ map-snoc keywordNumber (names d) (nameOf r)
 
-numbers-length : (d : List RuleTree) → length (numbers d) ≡ length (Ds d)
+pub numbers-length : (d : List RuleTree) → length (numbers d) ≡ length (Ds d)
 numbers-length [] = refl
 numbers-length (r ∷ d) = ap suc (numbers-length d)
 
@@ -139,7 +138,7 @@ pub record Keyed (d : List RuleTree) (k : Text) (o : Current) : Type 0 where
   pub new : held (keywordNumber k) (numbers d) ≡ false
 
 -- the rule's condition that is being read
-pub record Front·is (d : List RuleTree) (f : Front) (vs : List RangeTree) (c : Counts) (o : Current) (a : Arrays) (at : ℕ) : Type 0 where
+pub record FrontIs (d : List RuleTree) (f : Front) (vs : List RangeTree) (c : Counts) (o : Current) (a : Arrays) (at : ℕ) : Type 0 where
   pub base : Base d f vs c a at
   pub keyed : Keyed d (f .name) o
   pub named : same (f .name) other ≡ false
@@ -153,18 +152,23 @@ abbrev pub HeadIs : HeadTree → Current → Type 0
 HeadIs h o =
     (vs : List RangeTree) (v : RangeTree) → relationOf (Rel h vs v) ≡ record { operand = o .operand; modulus = o .modulus; negated = o .negated; ranges = map rangeOf (vs ++ (v ∷ [])) }
 
+-- a value or range takes two bytes at least: itself, and `=` or `,` before it. So there is a byte to spare behind an operand or a value, and one
+-- more before a value
+abbrev pub Spare : ℕ → Counts → ℕ → Type 0
+Spare k c at = 2 * c .ranges + k ≤ at
+
 abbrev pub HoldsAt : List RuleTree → State → Counts → Current → Arrays → ℕ → Type 0
 HoldsAt d WantsName c o a at = Base d none [] c a at
-HoldsAt d (WantsColon k) c o a at = Base d none [] c a at × Keyed d k o
-HoldsAt d (WantsNothing k) c o a at = Base d none [] c a at × Keyed d k o
-HoldsAt d (WantsOperand f) c o a at = Front·is d f [] c o a at
-HoldsAt d (HasOperand f x) c o a at = Front·is d f [] c o a at × Small f × (o .operand ≡ getD x 0 0) × (o .modulus ≡ 0)
-HoldsAt d (WantsModulus f x) c o a at = Front·is d f [] c o a at × Small f × (o .operand ≡ getD x 0 0)
-HoldsAt d (HasModulus f x m) c o a at = Front·is d f [] c o a at × Small f × (o .operand ≡ getD x 0 0) × (o .modulus ≡ value m)
-HoldsAt d (WantsValue f h vs) c o a at = Front·is d f vs c o a at × Small f × HeadIs h o × (2 * c .ranges + 1 ≤ at)
-HoldsAt d (HasValue f h vs x) c o a at = Front·is d f (vs ++ (One x ∷ [])) c o a at × Small f × HeadIs h o × (o .low ≡ value x)
-HoldsAt d (WantsUpper f h vs x) c o a at = Front·is d f (vs ++ (One x ∷ [])) c o a at × Small f × HeadIs h o × (o .low ≡ value x)
-HoldsAt d (HasUpper f h vs x y) c o a at = Front·is d f (vs ++ (Span x y ∷ [])) c o a at × Small f × HeadIs h o
+HoldsAt d (WantsColon k) c o a at = Base d none [] c a at × Keyed d k o × Spare 1 c at
+HoldsAt d (WantsNothing k) c o a at = Base d none [] c a at × Keyed d k o × Spare 1 c at
+HoldsAt d (WantsOperand f) c o a at = FrontIs d f [] c o a at
+HoldsAt d (HasOperand f x) c o a at = FrontIs d f [] c o a at × Small f × (o .operand ≡ getD x 0 0) × (o .modulus ≡ 0) × Spare 1 c at
+HoldsAt d (WantsModulus f x) c o a at = FrontIs d f [] c o a at × Small f × (o .operand ≡ getD x 0 0) × Spare 1 c at
+HoldsAt d (HasModulus f x m) c o a at = FrontIs d f [] c o a at × Small f × (o .operand ≡ getD x 0 0) × (o .modulus ≡ value m) × Spare 1 c at
+HoldsAt d (WantsValue f h vs) c o a at = FrontIs d f vs c o a at × Small f × HeadIs h o × Spare 2 c at
+HoldsAt d (HasValue f h vs x) c o a at = FrontIs d f (vs ++ (One x ∷ [])) c o a at × Small f × HeadIs h o × (o .low ≡ value x) × Spare 1 c at
+HoldsAt d (WantsUpper f h vs x) c o a at = FrontIs d f (vs ++ (One x ∷ [])) c o a at × Small f × HeadIs h o × (o .low ≡ value x) × Spare 1 c at
+HoldsAt d (HasUpper f h vs x y) c o a at = FrontIs d f (vs ++ (Span x y ∷ [])) c o a at × Small f × HeadIs h o × Spare 1 c at
 HoldsAt d Dead c o a at = Unit {0}
 
 -- ---- what `and`, `or` and `;` close
@@ -177,7 +181,7 @@ after x c = countsAfter c false x
 
 -- ---- bounds
 
-module _ (d : List RuleTree) (f : Front) (vs : List RangeTree) (c : Counts) (o : Current) (a : Arrays) (at : ℕ) (w : Front·is d f vs c o a at) (s : Small f) where
+module _ (d : List RuleTree) (f : Front) (vs : List RangeTree) (c : Counts) (o : Current) (a : Arrays) (at : ℕ) (w : FrontIs d f vs c o a at) (s : Small f) where
   clauses-room : length (Cs d f) < 40
   clauses-room =
       let b = w .base in
@@ -204,7 +208,7 @@ keyed-more d r e h =
 
 -- ---- a relation closed: the lists behind `and`, `or` and `;`
 
-module _ (d : List RuleTree) (f : Front) (h : HeadTree) (vs : List RangeTree) (v : RangeTree) (c : Counts) (o : Current) (a : Arrays) (at : ℕ) (w : Front·is d f (vs ++ (v ∷ [])) c o a at) (s : Small f) (g : HeadIs h o) where
+module _ (d : List RuleTree) (f : Front) (h : HeadTree) (vs : List RangeTree) (v : RangeTree) (c : Counts) (o : Current) (a : Arrays) (at : ℕ) (w : FrontIs d f (vs ++ (v ∷ [])) c o a at) (s : Small f) (g : HeadIs h o) where
   rel : RelationTree
   rel = Rel h vs v
 

@@ -1,15 +1,14 @@
 -- What a token adds to the arrays: a range, a range's upper end, a relation, a clause, a rule.
-use mathlib.Core.Path.{_≡_, refl, sym, ap, _∙_}
-use mathlib.Core.Bool.{Bool, true, false}
+use mathlib.Core.Path.{_≡_, sym, ap, _∙_}
+use mathlib.Core.Bool.{Bool}
 use mathlib.Core.List.{List, [], _∷_, _++_, map}
-use Prim.Native.Nat.{ℕ, suc, _+_, _-_, _≤_, _<_}
+use Prim.Native.Nat.{ℕ, _+_, _-_, _≤_, _<_}
 use native.Mathlib.Omega.{arith}
-use lib.ListN.{length, take, set, length-set, length-append}
+use lib.ListN.{length, set, length-append}
 use Rattle.rules.specs.Syntax.{Range, Relation, Rule}
 use Rattle.grammar.specs.Limits.{maxBytes}
 use Rattle.walk.specs.Steps.{moreOf}
-use Rattle.pack.specs.Board.{Arrays, Sized}
-use Rattle.pack.proofs.Flats.{more-is, flat, flat-snoc, map-snoc, endsOf, ends-snoc, fill-more, fill-last, Ranges, Relations, Clauses, Rules}
+use Rattle.pack.proofs.Flats.{more-is, flat, map-snoc, endsOf, ends-snoc, fill-more, fill-last, Ranges, Relations, Clauses, Rules}
 
 one-more : {A : Type 0} (n : ℕ) (xs : List A) (x : A) → n < maxBytes → n ≡ length xs → moreOf n ≡ length (xs ++ (x ∷ []))
 one-more n xs x h e = more-is n h ∙ omega (arith, length-append xs (x ∷ []))

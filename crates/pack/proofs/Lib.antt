@@ -5,3 +5,4 @@ pub mod Levels
 pub mod Holds
 pub mod Moves
 pub mod Sims
+pub mod Bounds

@@ -1,16 +1,16 @@
 -- One token more: its row is the definition's, and the board holds what the state behind it says.
 use mathlib.Core.Path.{_≡_, refl, sym, ap, _∙_, subst}
 use mathlib.Core.Bool.{Bool, true, false}
-use mathlib.Core.List.{List, [], _∷_, _++_, map}
-use Prim.Native.Nat.{ℕ, suc, _+_, _*_, _≤_, _<_, min}
+use mathlib.Core.List.{List, [], _∷_, _++_}
+use Prim.Native.Nat.{ℕ, suc, _+_, _*_, _≤_, _<_}
 use native.Mathlib.Omega.{arith}
 use lib.Dec.{eqb, ltb}
 use lib.ListN.{length, getD, take}
-use borrow.Author.Tests.{eqb-true, eqb-false, ne-eqb, ltb-true, ltb-false, lt-ltb, le-ltb}
+use borrow.Author.Tests.{ne-eqb, ltb-true, ltb-false}
 use Rattle.decimal.specs.Choice.{if_then_else_, both}
 use Rattle.decimal.specs.Digits.{value}
 use Rattle.decimal.proofs.Choices.{choice, tested, not-both, ltb-same}
-use Rattle.token.specs.Spelling.{same, among}
+use Rattle.token.specs.Spelling.{same}
 use Rattle.token.specs.Token.{dots, differ}
 use Rattle.token.proofs.Spellings.{same-eq}
 use Rattle.grammar.specs.Limits.{maxBytes, maxClauses, maxRelations, maxRanges, maxValue, isModulus}
@@ -20,19 +20,20 @@ use Rattle.grammar.specs.Grammar.HeadTree.{Plain, Modulo}
 use Rattle.grammar.specs.Grammar.RelationTree.{Rel}
 use Rattle.grammar.specs.Grammar.ClauseTree.{Joined}
 use Rattle.grammar.specs.Grammar.RuleTree.{Named}
-use Rattle.grammar.specs.Steps.{Front, State, goOn, signed, step, ends}
+use Rattle.grammar.specs.Steps.{Front, State}
 use Rattle.grammar.specs.Steps.State.{WantsName, WantsColon, WantsNothing, WantsOperand, HasOperand, WantsModulus, HasModulus, WantsValue, HasValue, WantsUpper, HasUpper, Dead}
-use Rattle.grammar.specs.Reader.{trouble, keywords}
-use Rattle.grammar.proofs.Viable.{Far, closed, onward}
+use Rattle.grammar.specs.Reader.{trouble}
+use Rattle.grammar.proofs.Viable.{Far, onward}
 use Rattle.grammar.proofs.Whole.{names, faultOn}
 use Rattle.phase.specs.Next.{phaseNumber}
 use Rattle.phase.proofs.Phases.{phaseOf}
-use Rattle.walk.specs.Steps.{capped, held, closesAt, countsAfter, keyAfter, currentAfter, rowAt, keywordNumber, nameRow, upperRow}
+use Rattle.walk.specs.Steps.{capped, held, closesAt, countsAfter, keyAfter, currentAfter, rowAt, moreOf, keywordNumber, nameRow, upperRow}
 use Rattle.walk.specs.declared.Counts.{Counts}
 use Rattle.walk.specs.declared.Current.{Current}
 use Rattle.pack.specs.Board.{Arrays, filled}
-use Rattle.pack.proofs.Tally.{wordRow, name-row, fresh}
-use Rattle.pack.proofs.Holds.{HoldsAt, HeadIs, Base, Keyed, Front·is, Small, numbers, later, begun, add-value, add-upper, close-and, close-or, close-semi, close-bare}
+use Rattle.pack.proofs.Flats.{more-is}
+use Rattle.pack.proofs.Tally.{name-row, fresh}
+use Rattle.pack.proofs.Holds.{HoldsAt, HeadIs, Keyed, FrontIs, Small, later, begun, add-value, add-upper, close-and, close-or, close-semi, close-bare}
 
 -- ---- values, kept at 1,000,001
 
@@ -142,11 +143,11 @@ module _ (d : List RuleTree) (c : Counts) (o : Current) (a : Arrays) (at p : ℕ
   abbrev Next : State → Text → Type 0
   Next s t = Then (phaseNumber (phaseOf s)) t (onward (here s) t)
 
-  onward-front : {f : Front} {vs : List RangeTree} → Front·is d f vs c o a at → Front·is d f vs c o a (suc p)
+  onward-front : {f : Front} {vs : List RangeTree} → FrontIs d f vs c o a at → FrontIs d f vs c o a (suc p)
   onward-front w = record { base = later p l (w .base); keyed = w .keyed; named = w .named }
 
   -- a relation is whole
-  module _ (f : Front) (h : HeadTree) (vs : List RangeTree) (v : RangeTree) (w : Front·is d f (vs ++ (v ∷ [])) c o a at) (z : Small f) (g : HeadIs h o) where
+  module _ (f : Front) (h : HeadTree) (vs : List RangeTree) (v : RangeTree) (w : FrontIs d f (vs ++ (v ∷ [])) c o a at) (z : Small f) (g : HeadIs h o) (r : 2 * c .ranges + 1 ≤ at) where
     by-and : Then 8 and (here (WantsOperand (record { name = f .name; clauses = f .clauses; relations = f .relations ++ (Rel h vs v ∷ []) })))
     by-and = record { base = close-and d f h vs v c o a at w z g (capped and) p l; keyed = record { key = w .keyed .key; known = w .keyed .known; new = w .keyed .new }; named = w .named }
 
@@ -157,26 +158,30 @@ module _ (d : List RuleTree) (c : Counts) (o : Current) (a : Arrays) (at p : ℕ
     by-semi = close-semi d f h vs v c o a at w z g (capped semi) p l
 
     by-comma : Then 8 comma (here (WantsValue f h (vs ++ (v ∷ []))))
-    by-comma = (record { base = later p l (w .base); keyed = record { key = w .keyed .key; known = w .keyed .known; new = w .keyed .new }; named = w .named }, z, g, omega (arith, w .base .room))
+    by-comma = (record { base = later p l (w .base); keyed = record { key = w .keyed .key; known = w .keyed .known; new = w .keyed .new }; named = w .named }, z, g, omega (arith, r))
 
   keyed-on : {k : Text} {n : Current} → Keyed d k o → n .key ≡ o .key → Keyed d k n
   keyed-on w e = record { key = e ∙ w .key; known = w .known; new = w .new }
 
-  front-on : {f : Front} {vs : List RangeTree} {n : Current} → Front·is d f vs c o a at → n .key ≡ o .key → Front·is d f vs c n a (suc p)
+  front-on : {f : Front} {vs : List RangeTree} {n : Current} → FrontIs d f vs c o a at → n .key ≡ o .key → FrontIs d f vs c n a (suc p)
   front-on w e = record { base = later p l (w .base); keyed = keyed-on (w .keyed) e; named = w .named }
+
+  -- one range more, behind a byte of its own
+  spare-value : 2 * c .ranges + 2 ≤ p → 2 * moreOf (c .ranges) + 1 ≤ suc p
+  spare-value h = let e = more-is (c .ranges) (omega arith) in omega arith
 
   -- MOVE: the board behind a token holds what the state behind it says
   pub move : (s : State) (t : Text) → HoldsAt d s c o a at → faultOn (here s) t ≡ 0 → Next s t
   move WantsName t h e =
       choice (Then 0 t) (same t semi) (λ _. tt)
       (λ _. choice (λ (s : State). Then 0 t (here s)) (isWord t)
-      (λ _. let w = fresh t (names d) e in (later p l h, record { key = refl; known = w .0; new = w .1 }))
+      (λ _. let w = fresh t (names d) e in (later p l h, record { key = refl; known = w .0; new = w .1 }, omega (arith, h .room)))
       (λ _. tt))
   move (WantsColon k) t h e =
       choice (Then 1 t) (same t semi) (λ _. tt)
       (λ _. choice (λ (s : State). Then 1 t (here s)) (same t colon)
       (λ _. choice (λ (s : State). Then 1 t (here s)) (same k other)
-      (λ _. (later p l (h .0), keyed-on (h .1) refl))
+      (λ _. (later p l (h .0), keyed-on (h .1) refl, omega (arith, h .2)))
       (λ q. record { base = begun k (later p l (h .0)); keyed = keyed-on (h .1) refl; named = q }))
       (λ _. tt))
   move (WantsNothing k) t h e =
@@ -184,27 +189,27 @@ module _ (d : List RuleTree) (c : Counts) (o : Current) (a : Arrays) (at p : ℕ
       (λ q. choice (Then 2 t) (same t semi) (λ r. not-both r q) (λ _. tt))
   move (WantsOperand f) t h e =
       choice (Then 3 t) (same t semi) (λ _. tt)
-      (λ _. choice (λ (s : State). Then 3 t (here s)) (isOperand t) (λ _. (front-on h refl, small f e, refl, refl)) (λ _. tt))
+      (λ _. choice (λ (s : State). Then 3 t (here s)) (isOperand t) (λ _. (front-on h refl, small f e, refl, refl, omega (arith, h .base .room))) (λ _. tt))
   move (HasOperand f x) t h e =
       choice (Then 4 t) (same t semi) (λ _. tt)
       (λ _. choice (λ (s : State). Then 4 t (here s)) (same t percent)
-      (λ _. (front-on (h .0) refl, h .1, h .2))
+      (λ _. (front-on (h .0) refl, h .1, h .2, omega (arith, h .4)))
       (λ _. choice (λ (s : State). Then 4 t (here s)) (same t equal)
-      (λ q. (front-on (h .0) refl, h .1, head-plain x false (currentAfter o 4 t (capped t) (o .key)) (h .2) (h .3) (ap (λ (u : Text). same u differ) (same-eq t equal q)), omega (arith, h .0 .base .room)))
+      (λ q. (front-on (h .0) refl, h .1, head-plain x false (currentAfter o 4 t (capped t) (o .key)) (h .2) (h .3) (ap (λ (u : Text). same u differ) (same-eq t equal q)), omega (arith, h .4)))
       (λ _. choice (λ (s : State). Then 4 t (here s)) (same t differ)
-      (λ q. (front-on (h .0) refl, h .1, head-plain x true (currentAfter o 4 t (capped t) (o .key)) (h .2) (h .3) q, omega (arith, h .0 .base .room)))
+      (λ q. (front-on (h .0) refl, h .1, head-plain x true (currentAfter o 4 t (capped t) (o .key)) (h .2) (h .3) q, omega (arith, h .4)))
       (λ _. tt))))
   move (WantsModulus f x) t h e =
       choice (Then 5 t) (same t semi) (λ _. tt)
       (λ _. choice (λ (s : State). Then 5 t (here s)) (isNumber t)
-      (λ _. (front-on (h .0) refl, h .1, h .2, modulus-exact t (listed (isModulus (value t)) e)))
+      (λ _. (front-on (h .0) refl, h .1, h .2, modulus-exact t (listed (isModulus (value t)) e), omega (arith, h .3)))
       (λ _. tt))
   move (HasModulus f x n) t h e =
       choice (Then 6 t) (same t semi) (λ _. tt)
       (λ _. choice (λ (s : State). Then 6 t (here s)) (same t equal)
-      (λ q. (front-on (h .0) refl, h .1, head-modulo x n false (currentAfter o 6 t (capped t) (o .key)) (h .2) (h .3) (ap (λ (u : Text). same u differ) (same-eq t equal q)), omega (arith, h .0 .base .room)))
+      (λ q. (front-on (h .0) refl, h .1, head-modulo x n false (currentAfter o 6 t (capped t) (o .key)) (h .2) (h .3) (ap (λ (u : Text). same u differ) (same-eq t equal q)), omega (arith, h .4)))
       (λ _. choice (λ (s : State). Then 6 t (here s)) (same t differ)
-      (λ q. (front-on (h .0) refl, h .1, head-modulo x n true (currentAfter o 6 t (capped t) (o .key)) (h .2) (h .3) q, omega (arith, h .0 .base .room)))
+      (λ q. (front-on (h .0) refl, h .1, head-modulo x n true (currentAfter o 6 t (capped t) (o .key)) (h .2) (h .3) q, omega (arith, h .4)))
       (λ _. tt)))
   move (WantsValue f g vs) t h e =
       let q = fits-value (ltb maxValue (value t)) (ltb (length vs) maxRanges) e in
@@ -220,14 +225,15 @@ module _ (d : List RuleTree) (c : Counts) (o : Current) (a : Arrays) (at p : ℕ
         h .1,
         h .2,
         n,
+        spare-value (omega (arith, h .3)),
       ))
       (λ _. tt))
   move (HasValue f g vs x) t h e =
-      tested (same t dots) (λ q. at-literal (Next (HasValue f g vs x)) t dots q (front-on (h .0) refl, h .1, h .2, h .3))
-      (λ e1. tested (same t comma) (λ q. at-literal (Next (HasValue f g vs x)) t comma q (by-comma f g vs (One x) (h .0) (h .1) (h .2)))
-      (λ e2. tested (same t and) (λ q. at-literal (Next (HasValue f g vs x)) t and q (by-and f g vs (One x) (h .0) (h .1) (h .2)))
-      (λ e3. tested (same t or) (λ q. at-literal (Next (HasValue f g vs x)) t or q (by-or f g vs (One x) (h .0) (h .1) (h .2)))
-      (λ e4. tested (same t semi) (λ q. at-literal (Next (HasValue f g vs x)) t semi q (by-semi f g vs (One x) (h .0) (h .1) (h .2)))
+      tested (same t dots) (λ q. at-literal (Next (HasValue f g vs x)) t dots q (front-on (h .0) refl, h .1, h .2, h .3, omega (arith, h .4)))
+      (λ e1. tested (same t comma) (λ q. at-literal (Next (HasValue f g vs x)) t comma q (by-comma f g vs (One x) (h .0) (h .1) (h .2) (h .4)))
+      (λ e2. tested (same t and) (λ q. at-literal (Next (HasValue f g vs x)) t and q (by-and f g vs (One x) (h .0) (h .1) (h .2) (h .4)))
+      (λ e3. tested (same t or) (λ q. at-literal (Next (HasValue f g vs x)) t or q (by-or f g vs (One x) (h .0) (h .1) (h .2) (h .4)))
+      (λ e4. tested (same t semi) (λ q. at-literal (Next (HasValue f g vs x)) t semi q (by-semi f g vs (One x) (h .0) (h .1) (h .2) (h .4)))
       (λ e5. choice (Then 8 t) (same t semi) (λ q. not-both q e5)
       (λ _. choice (λ (s : State). Then 8 t (here s)) (same t dots) (λ q. not-both q e1)
       (λ _. choice (λ (s : State). Then 8 t (here s)) (same t comma) (λ q. not-both q e2)
@@ -245,13 +251,14 @@ module _ (d : List RuleTree) (c : Counts) (o : Current) (a : Arrays) (at p : ℕ
         },
         h .1,
         h .2,
+        omega (arith, h .4),
       ))
       (λ _. tt))
   move (HasUpper f g vs x y) t h e =
-      tested (same t comma) (λ q. at-literal (Next (HasUpper f g vs x y)) t comma q (by-comma f g vs (Span x y) (h .0) (h .1) (h .2)))
-      (λ e2. tested (same t and) (λ q. at-literal (Next (HasUpper f g vs x y)) t and q (by-and f g vs (Span x y) (h .0) (h .1) (h .2)))
-      (λ e3. tested (same t or) (λ q. at-literal (Next (HasUpper f g vs x y)) t or q (by-or f g vs (Span x y) (h .0) (h .1) (h .2)))
-      (λ e4. tested (same t semi) (λ q. at-literal (Next (HasUpper f g vs x y)) t semi q (by-semi f g vs (Span x y) (h .0) (h .1) (h .2)))
+      tested (same t comma) (λ q. at-literal (Next (HasUpper f g vs x y)) t comma q (by-comma f g vs (Span x y) (h .0) (h .1) (h .2) (h .3)))
+      (λ e2. tested (same t and) (λ q. at-literal (Next (HasUpper f g vs x y)) t and q (by-and f g vs (Span x y) (h .0) (h .1) (h .2) (h .3)))
+      (λ e3. tested (same t or) (λ q. at-literal (Next (HasUpper f g vs x y)) t or q (by-or f g vs (Span x y) (h .0) (h .1) (h .2) (h .3)))
+      (λ e4. tested (same t semi) (λ q. at-literal (Next (HasUpper f g vs x y)) t semi q (by-semi f g vs (Span x y) (h .0) (h .1) (h .2) (h .3)))
       (λ e5. choice (Then 10 t) (same t semi) (λ q. not-both q e5)
       (λ _. choice (λ (s : State). Then 10 t (here s)) (same t comma) (λ q. not-both q e2)
       (λ _. choice (λ (s : State). Then 10 t (here s)) (same t and) (λ q. not-both q e3)

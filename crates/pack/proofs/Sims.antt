@@ -2,14 +2,14 @@
 use mathlib.Core.Path.{_≡_, refl, sym, ap, _∙_, subst}
 use mathlib.Core.Bool.{Bool, true, false}
 use mathlib.Core.List.{List, [], _∷_, _++_, map, append-nil}
-use Prim.Native.Nat.{ℕ, zero, suc, _+_, _*_, _≤_, _<_}
+use Prim.Native.Nat.{ℕ, zero, suc, _+_, _≤_, _<_}
 use native.Mathlib.Omega.{arith}
-use lib.Dec.{eqb, ltb}
+use lib.Dec.{eqb}
 use lib.ListN.{length, take, drop, length-drop}
 use borrow.Author.Tests.{eqb-false, le-ltb, lt-ltb}
 use Rattle.decimal.specs.Choice.{if_then_else_}
-use Rattle.decimal.proofs.Choices.{choice, tested, not-both}
-use Rattle.rules.specs.Syntax.{Range, Relation, Rule}
+use Rattle.decimal.proofs.Choices.{choice, not-both}
+use Rattle.rules.specs.Syntax.{Relation}
 use Rattle.rules.specs.Held.{heldRules}
 use Rattle.token.specs.Spelling.{same}
 use Rattle.token.specs.Token.{pieceLen, isWhite, dots, differ, Token, tokensFor, tokens}
@@ -25,7 +25,7 @@ use Rattle.grammar.specs.Steps.Read.{Whole, Cut}
 use Rattle.grammar.specs.Reader.{isDead, Parsed, Fault, orElse, faultAt, judge, readPack}
 use Rattle.grammar.specs.Reader.Parsed.{Trees, Bad}
 use Rattle.grammar.specs.Reader.Fault.{None, At}
-use Rattle.grammar.specs.Reader.PackAnswer.{Refused as Answer·refused}
+use Rattle.grammar.specs.Reader.PackAnswer.{Refused as AnswerRefused}
 use Rattle.answer.specs.declared.Refusal.the-variants.{PackTooLong}
 use Rattle.rules.specs.declared.Pack.{Pack}
 use Rattle.grammar.proofs.Places.{texts, or-0, or-1}
@@ -40,12 +40,10 @@ use Rattle.phase.proofs.Phases.{phaseOf, Flag, phase-on}
 use Rattle.walk.specs.declared.Counts.{Counts}
 use Rattle.walk.specs.declared.Current.{Current}
 use Rattle.walk.specs.declared.Mark.{Mark}
-use Rattle.walk.specs.declared.Walk.{Walk}
 use Rattle.pack.specs.Answer.{verdictOf, rulesOf}
 use Rattle.pack.specs.Board.{Arrays, Sized, Board, boardAfter, boards, startWalk, faultVerdict, judged, counted, lastBoard, packOf, ReadOf}
 use Rattle.pack.specs.declared.PackReading.{PackReading}
-use Rattle.pack.specs.declared.Verdict.{Verdict}
-use Rattle.pack.specs.declared.Verdict.the-variants.{Good, Refused}
+use Rattle.pack.specs.declared.Verdict.the-variants.{Refused}
 use Rattle.pack.proofs.Flats.{flat, held-back}
 use Rattle.pack.proofs.Tally.{no-tally}
 use Rattle.pack.proofs.Holds.{HoldsAt, Base, Ds, Cs, Rs, Gs, numbers, none, closedClauses}
@@ -120,7 +118,7 @@ sim-at p c o m a f at q t g e h l k =
           move (p .rules) c o a at q l k (p .state) t (h (or-0 f (faultAt (faultOn p t) q) z)) (fault-none (faultOn p t) q (or-1 f (faultAt (faultOn p t) q) z));
     }
 
-sim-step : (b : Board) (p : Far) (f : Fault) (at q : ℕ) (t : Text) → Sim b p f at → at ≤ q → q ≤ maxBytes
+pub sim-step : (b : Board) (p : Far) (f : Fault) (at q : ℕ) (t : Text) → Sim b p f at → at ≤ q → q ≤ maxBytes
     → Sim (boardAfter b t q) (onward p t) (orElse f (faultAt (faultOn p t) q)) (suc q)
 sim-step b p f at q t h l k =
     let w = b .walk in
@@ -131,7 +129,7 @@ sim-step b p f at q t h l k =
 
 -- ---- all tokens, each behind the one before
 
-abbrev Placed : ℕ → List Token → ℕ → Type 0
+abbrev pub Placed : ℕ → List Token → ℕ → Type 0
 Placed a [] end = a ≤ end
 Placed a (t ∷ ts) end = (a ≤ t .at) × Placed (suc (t .at)) ts end
 
@@ -143,7 +141,7 @@ placed-le : (a : ℕ) (ts : List Token) (end : ℕ) → Placed a ts end → a �
 placed-le a [] end h = h
 placed-le a (t ∷ ts) end h = omega (arith, h .0, placed-le (suc (t .at)) ts end (h .1))
 
-placed : (k a : ℕ) (s : Text) (end : ℕ) → a + length s ≡ end → Placed a (tokensFor k a s) end
+pub placed : (k a : ℕ) (s : Text) (end : ℕ) → a + length s ≡ end → Placed a (tokensFor k a s) end
 placed zero a s end e = omega arith
 placed (suc k) a s end e =
     go (eqb (length s) 0) refl (isWhite s) (tokensFor k (a + pieceLen s) (drop (pieceLen s) s))
@@ -164,7 +162,7 @@ or-none : (f : Fault) → orElse f None ≡ f
 or-none None = refl
 or-none (At n p) = refl
 
-sims : (ts : List Token) (b : Board) (p : Far) (f : Fault) (at end : ℕ) → Sim b p f at → Placed at ts end → end ≤ maxBytes
+pub sims : (ts : List Token) (b : Board) (p : Far) (f : Fault) (at end : ℕ) → Sim b p f at → Placed at ts end → end ≤ maxBytes
     → (n : ℕ) × (n ≤ end) × Sim (boards b ts) (far p (texts ts)) (orElse f (faults p ts)) n
 sims [] b p f at end h g l = (at, g, subst (λ (x : Fault). Sim b p x at) (sym (or-none f)) h)
 sims (t ∷ ts) b p f at end h g l =
@@ -264,7 +262,7 @@ outcome (t ∷ ts) b p end e g v =
 
 -- ---- the whole pack
 
-start : (a : Arrays) → Sized a → Sim (record { walk = startWalk; arrays = a }) outset None 0
+pub start : (a : Arrays) → Sized a → Sim (record { walk = startWalk; arrays = a }) outset None 0
 start a z =
     record {
       phase = refl;
@@ -358,7 +356,7 @@ answer a s z l =
 pub too-long : (s : Text) (p : Pack) → maxBytes < length s → p .count ≡ 0
     → (Refused PackTooLong ≡ verdictOf (readPack s)) × (heldRules p ≡ rulesOf (readPack s))
 too-long s p h e =
-    let k : readPack s ≡ Answer·refused PackTooLong = rw (lt-ltb maxBytes (length s) h) in
+    let k : readPack s ≡ AnswerRefused PackTooLong = rw (lt-ltb maxBytes (length s) h) in
     (sym (ap verdictOf k), rw e (sym (ap rulesOf k)))
 
 pub short : (r : PackReading) (s : Text) → ReadOf r s → length s ≤ maxBytes → (r .verdict ≡ verdictOf (readPack s)) × (heldRules (r .pack) ≡ rulesOf (readPack s))

@@ -6,8 +6,8 @@ use Prim.Native.Nat.{ℕ, zero, suc, _+_, _≤_, _<_}
 use native.Mathlib.Omega.{arith}
 use lib.Dec.{eqb, ltb}
 use lib.ListN.{length, length-append}
-use borrow.Author.Tests.{eqb-true, eqb-false, eq-eqb, ne-eqb, ltb-true, ltb-false, lt-ltb, le-ltb}
-use Rattle.decimal.specs.Choice.{if_then_else_, both}
+use borrow.Author.Tests.{eqb-true, eqb-false, eq-eqb, ne-eqb, ltb-true}
+use Rattle.decimal.specs.Choice.{if_then_else_}
 use Rattle.decimal.proofs.Choices.{choice, tested, not-both}
 use Rattle.answer.specs.Words.{spelling}
 use Rattle.answer.specs.declared.Keyword.the-variants.{Zero, One, Two, Few, Many, Other}
@@ -66,6 +66,11 @@ pub record Tally (ks : List ℕ) (m : ℕ) : Type 0 where
 
 pub no-tally : Tally [] 0
 no-tally = record { once = λ j. omega arith; total = omega arith; named = omega arith }
+
+-- at most six rules, five of them with a condition
+pub tally-most : (ks : List ℕ) (m : ℕ) → Tally ks m → (length ks ≤ 6) × (m ≤ 5)
+tally-most ks m t =
+    (omega (arith, t .total, t .once 0, t .once 1, t .once 2, t .once 3, t .once 4, t .once 5), omega (arith, t .named, t .once 0, t .once 1, t .once 2, t .once 3, t .once 4))
 
 -- the bits of a number below six, one of which is set
 bits : (x : ℕ) → x < 6 → bit (eqb x 0) + bit (eqb x 1) + bit (eqb x 2) + bit (eqb x 3) + bit (eqb x 4) + bit (eqb x 5) ≡ 1

@@ -1,7 +1,7 @@
 -- The arrays of a pack while it is read, and how a token changes them; the answer at the pack's end. A relation, a clause and a rule are stored when
 -- the token behind them closes them.
 use mathlib.Core.Path.{_≡_}
-use mathlib.Core.Bool.{Bool, true, false}
+use mathlib.Core.Bool.{Bool, false}
 use mathlib.Core.List.{List, [], _∷_}
 use Prim.Native.Nat.{ℕ, _-_}
 use lib.Dec.{eqb}

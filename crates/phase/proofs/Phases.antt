@@ -1,7 +1,7 @@
 -- The phases go with the grammar's states: the phase of a state, and of the state behind a token, `;` among the tokens.
 use mathlib.Core.Path.{_≡_, refl, sym, ap, _∙_}
 use mathlib.Core.Bool.{Bool, true, false}
-use mathlib.Core.List.{List, [], _∷_}
+use mathlib.Core.List.{List, []}
 use Rattle.decimal.specs.Choice.{if_then_else_}
 use Rattle.token.specs.Spelling.{same}
 use Rattle.token.specs.Token.{dots, differ}
@@ -9,9 +9,8 @@ use Rattle.token.proofs.Spellings.{same-eq}
 use Rattle.grammar.specs.Grammar.{Text, RangeTree, HeadTree, RuleTree, colon, semi, comma, percent, equal, and, or, other, isWord, isNumber, isOperand}
 use Rattle.grammar.specs.Grammar.RangeTree.{One, Span}
 use Rattle.grammar.specs.Grammar.HeadTree.{Plain, Modulo}
-use Rattle.grammar.specs.Steps.{Front, State, step, goOn, signed, Read, ends}
+use Rattle.grammar.specs.Steps.{Front, State, step, goOn, signed, ends}
 use Rattle.grammar.specs.Steps.State.{WantsName, WantsColon, WantsNothing, WantsOperand, HasOperand, WantsModulus, HasModulus, WantsValue, HasValue, WantsUpper, HasUpper, Dead as Died}
-use Rattle.grammar.specs.Steps.Read.{Whole, Cut}
 use Rattle.grammar.proofs.Viable.{Far, closed, onward}
 use Rattle.phase.specs.Next.{nextPhase, afterSign, afterRelation}
 use Rattle.phase.specs.declared.Phase.{Phase}

@@ -1,5 +1,5 @@
 -- What may follow in a pack, without what has been read: the automaton that the code runs, `;` among its tokens.
-use mathlib.Core.Bool.{Bool, true, false}
+use mathlib.Core.Bool.{Bool}
 use Prim.Native.Nat.{ℕ}
 use Rattle.decimal.specs.Choice.{if_then_else_}
 use Rattle.token.specs.Spelling.{same}

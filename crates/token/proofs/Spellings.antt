@@ -1,5 +1,5 @@
 -- Laws of byte strings: sameness, and beginnings.
-use mathlib.Core.Path.{_≡_, refl, sym, ap, _∙_}
+use mathlib.Core.Path.{_≡_, refl, sym, ap}
 use mathlib.Core.Bool.{Bool, true, false}
 use mathlib.Core.List.{List, [], _∷_}
 use Prim.Native.Nat.{ℕ, suc, _+_, _≤_, _<_}
@@ -9,7 +9,7 @@ use lib.Dec.{eqb}
 use lib.ListN.{length, getD, drop, drop-of-length-le}
 use lib.Seq.{drop-cons}
 use borrow.Author.Tests.{eq-eqb, ne-eqb, eqb-true}
-use Rattle.decimal.specs.Choice.{if_then_else_, both}
+use Rattle.decimal.specs.Choice.{both}
 use Rattle.decimal.proofs.Choices.{choice, not-both}
 use Rattle.token.specs.Spelling.{same, starts, lengthOf}
 
