@@ -1,1 +1,4 @@
 pub mod Computed
+pub mod Parts
+pub mod Leaping
+pub mod Split
