@@ -65,7 +65,7 @@ module _ (A : ℕ → ℕ → Bool) (F : ℕ → ℕ) (I : ℕ → Bool) (v i : 
           ⊎-elim (λ k. _⊎_.inl (fewer (vAt j) (fAt j) k b))
           (λ k. ⊎-elim (λ l. _⊎_.inr (li .none (iAt j) (omega arith) l))
           (λ l. _⊎_.inl (subst (λ (u : ℕ). A u (fAt j) ≡ false) (let g : v ≡ vAt j = omega (arith, wide) in g)
-            (lf v .none (fAt j) (omega arith) (omega (arith, wide)))))
+          (lf v .none (fAt j) (omega arith) (omega (arith, wide)))))
           (split (iAt j) i))
           (split (vAt j) v)
 

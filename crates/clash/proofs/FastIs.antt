@@ -104,11 +104,11 @@ module _ (e : ℕ) (c : List Relation) (k : ℕ) (he : e ≤ maxExponent) (hk : 
       let t = tOf (vAt k) (fAt k) in
       ap₂ both
       (five (leb e maxExponent) (leb (vAt k) maxPlaces) (leb (lowest e) (iAt k)) (ltb (iAt k) (10 ^ maxDigits)) (ltb (fAt k) (10 ^ vAt k))
-        (le-leb _ _ he) (le-leb (vAt k) maxPlaces (omega arith)) (lt-ltb (iAt k) (10 ^ maxDigits) (omega arith)) (lt-ltb _ _ h))
+      (le-leb _ _ he) (le-leb (vAt k) maxPlaces (omega arith)) (lt-ltb (iAt k) (10 ^ maxDigits) (omega arith)) (lt-ltb _ _ h))
       (clause-split false e (vAt k) (iAt k) (fAt k) w t (none-zero p) (zero-none p) (p .whole) c)
       ∙ mix (leb (lowest e) (iAt k)) (all (settledE e) c) (all (settledF (vAt k) w) c) (all (λ (r : Relation). passes (queryI (eqb w 0)) r (iAt k)) c) (all (λ (r : Relation). passes (queryT (vAt k - w) w) r t) c)
       ∙ ap (both (all (settledE e) c))
-        (sym (ap₂ either (order-is true h) (order-is false h) ∙ kind-is (vAt k) c (fAt k) h (integer e c (iAt k))))
+      (sym (ap₂ either (order-is true h) (order-is false h) ∙ kind-is (vAt k) c (fAt k) h (integer e c (iAt k))))
     where
       five : (a b l d f : Bool) → a ≡ true → b ≡ true → d ≡ true → f ≡ true → both a (both b (both l (both d f))) ≡ l
       five a b true d f ea eb ed ef = rw (ea, eb, ed, ef)
@@ -194,7 +194,7 @@ module _ (c : List Relation) where
 
 -- ---- a condition
 
-least-same : {P Q : ℕ → Bool} {lo hi r : ℕ} → ((j : ℕ) → P j ≡ Q j) → Least P lo hi r → Least Q lo hi r
+pub least-same : {P Q : ℕ → Bool} {lo hi r : ℕ} → ((j : ℕ) → P j ≡ Q j) → Least P lo hi r → Least Q lo hi r
 least-same e l = record { low = l .low; high = l .high; none = λ j a b. sym (e j) ∙ l .none j a b; hit = λ h. sym (e _) ∙ l .hit h }
 
 pub fast-least : (cs : List (List Relation)) → Least (found (conditionHolds cs)) 0 ranks (fastRank cs)

@@ -84,7 +84,7 @@ module _ (v w : ℕ) (c : List Relation) (hw : w ≤ v) where
             low = omega arith;
             high = omega (arith, size);
             none = λ j _ b. miss t (λ i k. l .none i (omega arith) k) j (omega (arith, size))
-              (λ p. ⊎-elim (λ k. k) (λ k. absurd (let g = mul-le-mul-right (10 ^ (v - w)) k in omega (arith, p .whole))) (split (tOf v j) t));
+                (λ p. ⊎-elim (λ k. k) (λ k. absurd (let g = mul-le-mul-right (10 ^ (v - w)) k in omega (arith, p .whole))) (split (tOf v j) t));
             hit = λ _. found-at t h s (l .hit h);
           }
 

@@ -69,7 +69,8 @@ end-leap q x = go (q .odd)
             rw e (record {
               low = omega arith;
               none = λ j a b. subst (λ (y : ℕ). not (eqb (y % 10) 0) ≡ false) (let g : x ≡ j = omega arith in g) (ap not e);
-              hit = λ z. absurd (omega arith) })
+              hit = λ z. absurd (omega arith);
+            })
 
         other-end : eqb (x % 10) 0 ≡ false → Leap (λ j. not (eqb (j % 10) 0)) x (if eqb (x % 10) 0 then suc x else x)
         other-end e = subst (λ (b : Bool). Leap (λ j. not (eqb (j % 10) 0)) x (if b then suc x else x)) (sym e) (leap-here x (ap not e))

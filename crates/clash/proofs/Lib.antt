@@ -1,7 +1,10 @@
-pub mod Computed
 pub mod Parts
 pub mod Leaping
 pub mod Split
 pub mod Fractions
 pub mod Digits
 pub mod FastIs
+pub mod Ranks
+pub mod Joined
+pub mod Claimed
+pub mod Rows

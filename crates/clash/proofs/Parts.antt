@@ -50,8 +50,8 @@ zero-none {v} {f} {w} {t} p e =
   where
     zero-t : t ≡ 0
     zero-t = ⊎-elim (λ h. omega arith)
-      (λ h. let g = mul-le-mul-right (10 ^ (v - w)) h in omega (arith, p .whole, power-pos (v - w)))
-      (split t 1)
+        (λ h. let g = mul-le-mul-right (10 ^ (v - w)) h in omega (arith, p .whole, power-pos (v - w)))
+        (split t 1)
 
 -- the parts are one pair only
 not-less : {v f w t w′ t′ : ℕ} → Parts v f w t → Parts v f w′ t′ → w < w′ → ⊥

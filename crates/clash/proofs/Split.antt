@@ -38,6 +38,7 @@ module _ (negative : Bool) (e v i f w t : ℕ) (to : w ≡ 0 → f ≡ 0) (from 
       where
         A : Bool
         A = any (inRange (i % m)) rs
+
         go : (b s : Bool) → (if s then not (both b (any (inRange (i % m)) rs)) else both b (any (inRange (i % m)) rs))
             ≡ both (either b s) (both (if not (eqb (if b then 1 else 0) 0) then (if s then not (any (inRange (i * (if b then 1 else 0) % m)) rs) else any (inRange (i * (if b then 1 else 0) % m)) rs) else true) true)
         go true true = rw (mul-one i) (both-one _)
@@ -87,11 +88,11 @@ module _ (negative : Bool) (e v i f w t : ℕ) (to : w ≡ 0 → f ≡ 0) (from 
 
   pub clause-split : (c : List Relation) → clauseHolds c x
       ≡ both (all (settledE e) c)
-        (both (all (settledF v w) c)
-        (both (all (λ (r : Relation). passes (queryI (eqb w 0)) r i) c) (all (λ (r : Relation). passes (queryT (v - w) w) r t) c)))
+      (both (all (settledF v w) c)
+      (both (all (λ (r : Relation). passes (queryI (eqb w 0)) r i) c) (all (λ (r : Relation). passes (queryT (v - w) w) r t) c)))
   clause-split [] = refl
   clause-split (r ∷ rs) = ap₂ both (relation-split r) (clause-split rs) ∙ mix (settledE e r) (settledF v w r) (passes (queryI (eqb w 0)) r i) (passes (queryT (v - w) w) r t)
-    (all (settledE e) rs) (all (settledF v w) rs) (all (λ (r : Relation). passes (queryI (eqb w 0)) r i) rs) (all (λ (r : Relation). passes (queryT (v - w) w) r t) rs)
+      (all (settledE e) rs) (all (settledF v w) rs) (all (λ (r : Relation). passes (queryI (eqb w 0)) r i) rs) (all (λ (r : Relation). passes (queryT (v - w) w) r t) rs)
     where
       swap : (a b c d : Bool) → both (both a b) (both c d) ≡ both (both a c) (both b d)
       swap true true c d = refl
