@@ -5,10 +5,12 @@ use mathlib.Core.List.{List, [], _∷_, _++_}
 use mathlib.Core.Logic.{_⊎_, ⊎-elim}
 use Prim.Native.Nat.{ℕ, zero, suc, _+_, _-_, _*_, _/_, _%_, _^_, _≤_, _<_, min}
 use native.Mathlib.Omega.{arith}
+use lib.Arith.{digits-div, digits-mod}
 use lib.Dec.{eqb, ltb, leb}
-use borrow.Author.Tests.{ltb-true, ltb-false, lt-ltb, le-leb, lt-leb, leb-true}
+use native.Mathlib.Nat.{le-trans}
+use borrow.Author.Tests.{ltb-true, ltb-false, lt-ltb, le-ltb, le-leb, lt-leb, leb-true, leb-false, eqb-false, ne-eqb}
 use Rattle.decimal.specs.Choice.{if_then_else_, both, either}
-use Rattle.decimal.proofs.Choices.{tested}
+use Rattle.decimal.proofs.Choices.{tested, choice}
 use Rattle.decimal.proofs.Values.{power-mono}
 use Rattle.answer.specs.declared.Witness.{Witness}
 use Rattle.number.specs.Limits.{maxExponent, maxDigits, maxPlaces}
@@ -17,14 +19,14 @@ use Rattle.number.specs.declared.Number.{Number}
 use Rattle.rules.specs.Syntax.{Relation, Rule}
 use Rattle.plural.specs.Meaning.{all, clauseHolds, conditionHolds, meets}
 use Rattle.least.specs.Seek.{Least, seek}
-use Rattle.least.proofs.Seeking.{split, and-false-left, and-false-right, and-true, least-none, least-or, least-after, least-widen, least-one, seek-least}
+use Rattle.least.proofs.Seeking.{split, and-false-left, and-false-right, and-true, or-false, least-none, least-or, least-one, seek-least}
 use Rattle.clash.specs.Check.{lowest, admits, numberAt, ranked, block, ranks, found, leastRank}
-use Rattle.clash.specs.Fast.{queryI, queryT, passes, ends, passesAll, search, settledE, settledF, fractionOf, placesOf, integerOf, kindRank, exponentRank, exponentsRank, clauseRank, fastRank}
+use Rattle.clash.specs.Fast.{queryI, queryT, passes, ends, passesAll, search, settledE, settledF, exponentOf, fractions, fractionCode, integerOf, placed, kindRank, clauseRank, fastRank}
 use Rattle.clash.proofs.Parts.{parts, none-zero, zero-none}
 use Rattle.clash.proofs.Leaping.{search-least}
 use Rattle.clash.proofs.Split.{clause-split}
-use Rattle.clash.proofs.Fractions.{fraction, kindFits, kind-least, kind-is, places-least}
-use Rattle.clash.proofs.Digits.{vAt, iAt, fAt, inOrder, order-least}
+use Rattle.clash.proofs.Fractions.{fraction, vOf, fOf, kindFits, kind-least, kind-is, kind-long}
+use Rattle.clash.proofs.Digits.{vAt, iAt, fAt, codeAt, f-lt, code-lt, inOrder, order-least}
 
 -- ---- one exponent
 
@@ -48,30 +50,35 @@ unfolding integer integerOf
 integer-least whole e c h = from-low (passesAll (queryI whole) c) (lowest e) (10 ^ maxDigits) _ (search-least (queryI whole) c (lowest e) (10 ^ maxDigits) (lowest-le e h))
 
 abbrev kindTest : Bool → ℕ → List Relation → ℕ → Bool
-kindTest whole e c = inOrder (λ v f. kindFits whole v c f) (λ i. integer e c i whole)
+kindTest whole e c = inOrder (kindFits whole c) (λ i. integer e c i whole)
 
-kind-rank : (whole : Bool) (e : ℕ) (c : List Relation) → e ≤ maxExponent
-    → Least (kindTest whole e c) 0 block (kindRank whole e (placesOf whole c) (fractionOf whole (placesOf whole c) c) c)
+kind-rank : (whole : Bool) (e : ℕ) (c : List Relation) → e ≤ maxExponent → Least (kindTest whole e c) 0 block (kindRank whole e c)
 unfolding kindRank
 kind-rank whole e c h =
-    order-least (λ v f. kindFits whole v c f) (λ v. fractionOf whole v c) (λ i. integer e c i whole) (placesOf whole c) (integerOf whole e c)
-    (λ v. kind-least whole v c) (places-least whole c) (integer-least whole e c h)
+    order-least (kindFits whole c) (λ i. integer e c i whole) (fractionCode whole c) (integerOf whole e c) (kind-least whole c) (integer-least whole e c h)
+
+-- what one exponent has not, a later one has not either
+lowest-mono : (d e : ℕ) → d ≤ e → lowest d ≤ lowest e
+lowest-mono d e h =
+    tested (eqb d 0) (λ z. rw z (omega arith))
+    (λ z.
+    let n = eqb-false d 0 z in
+    let m : eqb e 0 ≡ false = ne-eqb e 0 (λ y. n (omega arith)) in
+    rw (z, m) (power-mono h))
+
+later : (whole : Bool) (d e : ℕ) (c : List Relation) → d ≤ maxExponent → d ≤ e → block ≤ kindRank whole d c → (k : ℕ) → k < block → kindTest whole e c k ≡ false
+unfolding inOrder integer
+later whole d e c hd h n k hk =
+    weaker (kindFits whole c (codeAt k)) (leb (lowest d) (iAt k)) (leb (lowest e) (iAt k)) (passesAll (queryI whole) c (iAt k))
+    (λ a. le-leb _ _ (let l = leb-true _ _ a in let m = lowest-mono d e h in le-trans m l))
+    (kind-rank whole d c hd .none k (omega arith) (omega arith))
+  where
+    weaker : (a l m p : Bool) → (m ≡ true → l ≡ true) → both a (both l p) ≡ false → both a (both m p) ≡ false
+    weaker a l true p f g = subst (λ (x : Bool). both a (both x p) ≡ false) (f refl) g
+    weaker a l false p f g = and-false-right a refl
 
 unfoldable exponentTest : ℕ → List Relation → ℕ → Bool
 exponentTest e c k = both (all (settledE e) c) (either (kindTest true e c k) (kindTest false e c k))
-
-exponent-rank : (e : ℕ) (c : List Relation) → e ≤ maxExponent
-    → Least (exponentTest e c) 0 block (exponentRank e (placesOf true c) (fractionOf true (placesOf true c) c) (placesOf false c) (fractionOf false (placesOf false c) c) c)
-unfolding exponentTest exponentRank
-exponent-rank e c h = go (all (settledE e) c) (least-or (kind-rank true e c h) (kind-rank false e c h))
-  where
-    k : ℕ
-    k = min (kindRank true e (placesOf true c) (fractionOf true (placesOf true c) c) c) (kindRank false e (placesOf false c) (fractionOf false (placesOf false c) c) c)
-
-    go : (b : Bool) → Least (λ j. either (kindTest true e c j) (kindTest false e c j)) 0 block k
-        → Least (λ j. both b (either (kindTest true e c j) (kindTest false e c j))) 0 block (elim b [ true ↦ k | false ↦ block ])
-    go true l = l
-    go false l = least-none (λ j. false) 0 block (omega arith) (λ j _ b. refl)
 
 -- ---- at one number
 
@@ -92,9 +99,22 @@ module _ (e : ℕ) (c : List Relation) (k : ℕ) (he : e ≤ maxExponent) (hk : 
   abbrev low : Bool
   low = leb (lowest e) (iAt k)
 
-  order-is : (whole : Bool) → fAt k < 10 ^ vAt k → kindTest whole e c k ≡ both (kindFits whole (vAt k) c (fAt k)) (integer e c (iAt k) whole)
+  abbrev Q : ℕ
+  Q = codeAt k
+
+  v-is : vOf (codeAt k) ≡ vAt k
+  v-is = digits-div (vAt k) (f-lt k)
+
+  f-is : fOf (codeAt k) ≡ fAt k
+  f-is = digits-mod (vAt k) (f-lt k)
+
+  -- the kinds at v and f
+  kinds : fAt k < 10 ^ vAt k → either (kindTest true e c k) (kindTest false e c k)
+      ≡ both (fraction (vAt k) (wOf (vAt k) (fAt k)) c (tOf (vAt k) (fAt k))) (integer e c (iAt k) (eqb (wOf (vAt k) (fAt k)) 0))
   unfolding inOrder
-  order-is whole h = ap (λ (b : Bool). both b (both (kindFits whole (vAt k) c (fAt k)) (integer e c (iAt k) whole))) (lt-ltb _ _ h)
+  kinds h =
+      kind-is c (codeAt k) (code-lt k hk) (subst (λ (x : ℕ). fOf (codeAt k) < 10 ^ x) (sym v-is) (subst (λ (x : ℕ). x < 10 ^ vAt k) (sym f-is) h)) (integer e c (iAt k))
+      ∙ ap₂ (λ (v f : ℕ). both (fraction v (wOf v f) c (tOf v f)) (integer e c (iAt k) (eqb (wOf v f) 0))) v-is f-is
 
   inside : fAt k < 10 ^ vAt k → both (admits X) (clauseHolds c (numberAt X)) ≡ exponentTest e c k
   unfolding admits exponentTest integer fraction passesAll ends
@@ -106,9 +126,8 @@ module _ (e : ℕ) (c : List Relation) (k : ℕ) (he : e ≤ maxExponent) (hk : 
       (five (leb e maxExponent) (leb (vAt k) maxPlaces) (leb (lowest e) (iAt k)) (ltb (iAt k) (10 ^ maxDigits)) (ltb (fAt k) (10 ^ vAt k))
       (le-leb _ _ he) (le-leb (vAt k) maxPlaces (omega arith)) (lt-ltb (iAt k) (10 ^ maxDigits) (omega arith)) (lt-ltb _ _ h))
       (clause-split false e (vAt k) (iAt k) (fAt k) w t (none-zero p) (zero-none p) (p .whole) c)
-      ∙ mix (leb (lowest e) (iAt k)) (all (settledE e) c) (all (settledF (vAt k) w) c) (all (λ (r : Relation). passes (queryI (eqb w 0)) r (iAt k)) c) (all (λ (r : Relation). passes (queryT (vAt k - w) w) r t) c)
-      ∙ ap (both (all (settledE e) c))
-      (sym (ap₂ either (order-is true h) (order-is false h) ∙ kind-is (vAt k) c (fAt k) h (integer e c (iAt k))))
+      ∙ mix (leb (lowest e) (iAt k)) (all (settledE e) c) (all (settledF (vAt k) w) c) (all (λ (r : Relation). passes (queryI (eqb w 0)) r (iAt k)) c) (all (λ (r : Relation). passes (queryT (vAt k - w)) r t) c)
+      ∙ ap (both (all (settledE e) c)) (sym (kinds h))
     where
       five : (a b l d f : Bool) → a ≡ true → b ≡ true → d ≡ true → f ≡ true → both a (both b (both l (both d f))) ≡ l
       five a b true d f ea eb ed ef = rw (ea, eb, ed, ef)
@@ -131,13 +150,13 @@ module _ (e : ℕ) (c : List Relation) (k : ℕ) (he : e ≤ maxExponent) (hk : 
 
   outside : 10 ^ vAt k ≤ fAt k → both (admits X) (clauseHolds c (numberAt X)) ≡ exponentTest e c k
   unfolding admits exponentTest inOrder
-  outside h = rw (not-lt) (no (leb e maxExponent) (leb (vAt k) maxPlaces) (leb (lowest e) (iAt k)) (ltb (iAt k) (10 ^ maxDigits)) (all (settledE e) c) (clauseHolds c (numberAt X)))
+  outside h =
+      and-false-left (clauseHolds c (numberAt X))
+      (and-false-right (leb e maxExponent) (and-false-right (leb (vAt k) maxPlaces) (and-false-right (leb (lowest e) (iAt k)) (and-false-right (ltb (iAt k) (10 ^ maxDigits)) (le-ltb (fAt k) (10 ^ vAt k) h)))))
+      ∙ sym (and-false-right (all (settledE e) c) (or-false (and-false-left (integer e c (iAt k) true) (long true)) (and-false-left (integer e c (iAt k) false) (long false))))
     where
-      not-lt : ltb (fAt k) (10 ^ vAt k) ≡ false
-      not-lt = tested (ltb (fAt k) (10 ^ vAt k)) (λ z. absurd (let q = ltb-true (fAt k) (10 ^ vAt k) z in omega arith)) (λ z. z)
-
-      no : (a b l d s m : Bool) → both (both a (both b (both l (both d false)))) m ≡ both s false
-      no a b l d s m = and-false-left m (and-false-right a (and-false-right b (and-false-right l (and-false-right d refl)))) ∙ sym (and-false-right s refl)
+      long : (whole : Bool) → kindFits whole c (codeAt k) ≡ false
+      long whole = kind-long c (codeAt k) (code-lt k hk) (ap₂ (λ (v f : ℕ). ltb f (10 ^ v)) v-is f-is ∙ le-ltb (fAt k) (10 ^ vAt k) h) whole
 
   found-is : found (clauseHolds c) (e * block + k) ≡ exponentTest e c k
   unfolding found
@@ -147,50 +166,67 @@ module _ (e : ℕ) (c : List Relation) (k : ℕ) (he : e ≤ maxExponent) (hk : 
 
 -- ---- all exponents
 
--- what is least in a block is least among the ranks from its start to its end
-shifted : (P Q : ℕ → Bool) (base n r : ℕ) → ((k : ℕ) → k < n → P (base + k) ≡ Q k) → Least Q 0 n r → Least P base (base + n) (base + r)
-shifted P Q base n r e l =
-    record {
-      low = omega arith;
-      high = omega (arith, l .high);
-      none = λ j a b. ap P (let g : j ≡ base + (j - base) = omega arith in g) ∙ e (j - base) (omega (arith, l .high)) ∙ l .none (j - base) (omega arith) (omega arith);
-      hit = λ h. e r (omega arith) ∙ l .hit (omega arith);
-    }
-
 module _ (c : List Relation) where
-  abbrev v₀ : ℕ
-  v₀ = placesOf true c
+  settled : Least (λ e. all (settledE e) c) 0 (suc maxExponent) (exponentOf c)
+  unfolding exponentOf
+  settled = seek-least (λ e. all (settledE e) c) (suc maxExponent) 0
 
-  abbrev f₀ : ℕ
-  f₀ = fractionOf true (placesOf true c) c
+  -- a rank is an exponent and a rank within it
+  at-rank : (j : ℕ) → j < ranks → found (clauseHolds c) j ≡ exponentTest (j / block) c (j % block)
+  at-rank j h =
+      ap (found (clauseHolds c)) (let g : j ≡ j / block * block + j % block = omega arith in g)
+      ∙ found-is (j / block) c (j % block) (omega arith) (omega arith)
 
-  abbrev v₁ : ℕ
-  v₁ = placesOf false c
+  -- nothing before the least exponent
+  sooner : (j : ℕ) → j < ranks → j / block < exponentOf c → found (clauseHolds c) j ≡ false
+  unfolding exponentTest
+  sooner j h l = at-rank j h ∙ and-false-left (either (kindTest true (j / block) c (j % block)) (kindTest false (j / block) c (j % block))) (settled .none (j / block) (omega arith) l)
 
-  abbrev f₁ : ℕ
-  f₁ = fractionOf false (placesOf false c) c
+  module _ (he : exponentOf c ≤ maxExponent) where
+    abbrev K : ℕ
+    K = min (kindRank true (exponentOf c) c) (kindRank false (exponentOf c) c)
 
-  one-exponent : (e : ℕ) → e ≤ maxExponent → Least (found (clauseHolds c)) (e * block) (e * block + block) (e * block + exponentRank e v₀ f₀ v₁ f₁ c)
-  one-exponent e h = shifted (found (clauseHolds c)) (exponentTest e c) (e * block) block _ (λ k hk. found-is e c k h hk) (exponent-rank e c h)
+    either-kind : Least (λ k. either (kindTest true (exponentOf c) c k) (kindTest false (exponentOf c) c k)) 0 block K
+    either-kind = least-or (kind-rank true (exponentOf c) c he) (kind-rank false (exponentOf c) c he)
 
-  exponents : (n e : ℕ) → e + n ≡ suc maxExponent → Least (found (clauseHolds c)) (e * block) ranks (exponentsRank v₀ f₀ v₁ f₁ c n e)
-  unfolding exponentsRank
-  exponents zero e h =
-      subst (λ (x : ℕ). Least (found (clauseHolds c)) (e * block) x (e * block)) (let g : e * block ≡ ranks = omega arith in g)
-      (least-none (found (clauseHolds c)) (e * block) (e * block) (omega arith) (λ j u w. absurd (omega arith)))
-  exponents (suc n) e h = go _ (one-exponent e (omega arith)) (exponents n (suc e) (omega arith))
-    where
-      go : (k : ℕ) → Least (found (clauseHolds c)) (e * block) (e * block + block) (e * block + k) → Least (found (clauseHolds c)) (suc e * block) ranks (exponentsRank v₀ f₀ v₁ f₁ c n (suc e))
-          → Least (found (clauseHolds c)) (e * block) ranks (elim (ltb k block) [ true ↦ e * block + k | false ↦ exponentsRank v₀ f₀ v₁ f₁ c n (suc e) ])
-      go k l m = two (ltb k block) refl
-        where
-          two : (b : Bool) → ltb k block ≡ b → Least (found (clauseHolds c)) (e * block) ranks (elim b [ true ↦ e * block + k | false ↦ exponentsRank v₀ f₀ v₁ f₁ c n (suc e) ])
-          two true q = let d = ltb-true k block q in least-widen (omega arith) (omega arith) l
-          two false q = let d = ltb-false k block q in least-after (omega arith) (λ j u w. l .none j u (omega arith)) m
+    clause-found : K < block → Least (found (clauseHolds c)) 0 ranks (exponentOf c * block + K)
+    unfolding exponentTest
+    clause-found h =
+        record {
+          low = omega arith;
+          high = omega arith;
+          none = λ j _ l. ⊎-elim (sooner j (omega arith)) (λ z. at j l z) (split (j / block) (exponentOf c));
+          hit = λ _. found-is (exponentOf c) c K he h ∙ and-true (settled .hit (omega arith)) (either-kind .hit h);
+        }
+      where
+        at : (j : ℕ) → j < exponentOf c * block + K → exponentOf c ≤ j / block → found (clauseHolds c) j ≡ false
+        at j l z =
+            at-rank j (omega arith)
+            ∙ and-false-right (all (settledE (j / block)) c)
+            (subst (λ (x : ℕ). either (kindTest true x c (j % block)) (kindTest false x c (j % block)) ≡ false) (let g : exponentOf c ≡ j / block = omega arith in g) (either-kind .none (j % block) (omega arith) (omega arith)))
+
+    clause-none : block ≤ K → Least (found (clauseHolds c)) 0 ranks ranks
+    unfolding exponentTest
+    clause-none h =
+        least-none (found (clauseHolds c)) 0 ranks (omega arith)
+        (λ j _ l. ⊎-elim (sooner j l)
+        (λ z. at-rank j l ∙ and-false-right (all (settledE (j / block)) c)
+        (or-false (later true (exponentOf c) (j / block) c he z (omega arith) (j % block) (omega arith)) (later false (exponentOf c) (j / block) c he z (omega arith) (j % block) (omega arith))))
+        (split (j / block) (exponentOf c)))
 
   pub clause-least : Least (found (clauseHolds c)) 0 ranks (clauseRank c)
   unfolding clauseRank
-  clause-least = exponents (suc maxExponent) 0 refl
+  clause-least = go (leb (exponentOf c) maxExponent) refl
+    where
+      go : (b : Bool) → leb (exponentOf c) maxExponent ≡ b → Least (found (clauseHolds c)) 0 ranks
+          (elim b [ true ↦ (let k = min (kindRank true (exponentOf c) c) (kindRank false (exponentOf c) c) in if ltb k block then exponentOf c * block + k else ranks) | false ↦ ranks ])
+      go true e =
+          let he = leb-true (exponentOf c) maxExponent e in
+          choice (Least (found (clauseHolds c)) 0 ranks) (ltb (min (kindRank true (exponentOf c) c) (kindRank false (exponentOf c) c)) block)
+          (λ h. clause-found he (ltb-true _ _ h)) (λ h. clause-none he (ltb-false _ _ h))
+      go false e =
+          let n = leb-false (exponentOf c) maxExponent e in
+          least-none (found (clauseHolds c)) 0 ranks (omega arith) (λ j _ l. sooner j l (omega arith))
 
 -- ---- a condition
 

@@ -1,183 +1,384 @@
--- The least fraction of a clause: of w digits, of any count of them but 0, and the least count of places at which there is one.
+-- The least fraction of a clause, v and f as one number: where f is 0, where it ends in k zeros, and where it is not 0.
 use mathlib.Core.Path.{_≡_, refl, sym, ap, ap₂, subst, _∙_}
 use mathlib.Core.Bool.{Bool, true, false, not}
 use mathlib.Core.List.{List, [], _∷_}
 use mathlib.Core.Logic.{_⊎_, ⊎-elim}
-use Prim.Native.Nat.{ℕ, zero, suc, _+_, _-_, _*_, _%_, _^_, _≤_, _<_, min}
+use Prim.Native.Nat.{ℕ, zero, suc, _+_, _-_, _*_, _/_, _%_, _^_, _≤_, _<_, min}
 use native.Mathlib.Omega.{arith}
-use native.Mathlib.Nat.{mul-le-mul-right, mul-lt-mul-of-pos-right}
+use native.Mathlib.Nat.{mul-le-mul-right, mul-lt-mul-of-pos-right, zero-mul, mul-one}
 use lib.Pow.{pow-add}
-use lib.Dec.{eqb, ltb}
-use borrow.Author.Tests.{eqb-true, eqb-false, eq-eqb, ne-eqb, ltb-true, ltb-false, not-true}
+use lib.Dec.{eqb, ltb, leb}
+use borrow.Author.Tests.{eqb-true, eqb-false, eq-eqb, ne-eqb, ltb-true, ltb-false, lt-ltb, leb-true, leb-false, not-true}
 use Rattle.decimal.specs.Choice.{if_then_else_, both, either}
-use Rattle.decimal.proofs.Choices.{tested, choice}
-use Rattle.decimal.proofs.Values.{power-pos}
+use Rattle.decimal.proofs.Choices.{tested, choice, not-both}
+use Rattle.decimal.proofs.Values.{power-pos, power-mono}
 use Rattle.number.specs.Limits.{maxPlaces}
 use Rattle.number.specs.Admitted.{wOf, tOf}
 use Rattle.rules.specs.Syntax.{Relation}
 use Rattle.plural.specs.Meaning.{all}
 use Rattle.least.specs.Seek.{Least, seek}
-use Rattle.least.proofs.Seeking.{split, and-false-left, and-false-right, and-true, least-none, least-or, seek-least}
-use Rattle.clash.specs.Fast.{Query, queryT, passes, ends, passesAll, search, settledF, fractionAt, partAt, fractionOf, placesOf}
-use Rattle.clash.proofs.Parts.{Parts, parts, parts-w, parts-t}
+use Rattle.least.proofs.Seeking.{split, and-false-left, and-false-right, and-true, or-false, least-none, least-or, seek-least}
+use Rattle.clash.specs.Fast.{Query, queryT, factor, test, asked, passes, ends, passesAll, search, settledF, fractions, wholeCode, tailOf, tailPlaces, tailCode, partCode, fractionCode}
+use Rattle.clash.proofs.Parts.{Parts, parts, parts-w, parts-t, none-zero, zero-none}
 use Rattle.clash.proofs.Leaping.{both-held, search-least}
 
 -- what v and w settle, and what is asked of t
 unfoldable pub fraction : ℕ → ℕ → List Relation → ℕ → Bool
-fraction v w c t = both (all (settledF v w) c) (all (λ (r : Relation). passes (queryT (v - w) w) r t) c)
+fraction v w c t = both (all (settledF v w) c) (all (λ (r : Relation). passes (queryT (v - w)) r t) c)
 
--- f has w digits without trailing zeros, and all holds that is asked of it
-unfoldable pub fits : ℕ → ℕ → List Relation → ℕ → Bool
-fits v w c f = both (eqb (wOf v f) w) (fraction v w c (tOf v f))
+-- v and f, of one number
+abbrev pub vOf : ℕ → ℕ
+vOf q = q / 10 ^ maxPlaces
 
-fits-not : (v w : ℕ) (c : List Relation) (f : ℕ) → (wOf v f ≡ w → fraction v w c (tOf v f) ≡ false) → fits v w c f ≡ false
-unfolding fits
-fits-not v w c f h = tested (eqb (wOf v f) w) (λ e. and-false-right (eqb (wOf v f) w) (h (eqb-true _ _ e))) (λ e. and-false-left (fraction v w c (tOf v f)) e)
+abbrev pub fOf : ℕ → ℕ
+fOf q = q % 10 ^ maxPlaces
 
--- the last digit of t is what its search asks
-ends-odd : (k w t : ℕ) → ((w ≡ 0 → ⊥) → t % 10 ≡ 0 → ⊥) → ends (queryT k w) t ≡ true
-unfolding ends
-ends-odd k w t h =
-    tested (eqb w 0) (λ e. ap (λ (b : Bool). if not b then not (eqb (t % 10) 0) else true) e)
-    (λ e. ap (λ (b : Bool). if not b then not (eqb (t % 10) 0) else true) e ∙ ap not (ne-eqb (t % 10) 0 (h (eqb-false w 0 e))))
+abbrev W : ℕ → ℕ
+W q = wOf (vOf q) (fOf q)
 
-odd-ends : (k w t : ℕ) → ends (queryT k w) t ≡ true → (w ≡ 0 → ⊥) → t % 10 ≡ 0 → ⊥
-unfolding ends
-odd-ends k w t e n =
-    eqb-false (t % 10) 0 (not-true _ (subst (λ (b : Bool). (if not b then not (eqb (t % 10) 0) else true) ≡ true) (ne-eqb w 0 n) e))
+abbrev T : ℕ → ℕ
+T q = tOf (vOf q) (fOf q)
 
-module _ (v w : ℕ) (c : List Relation) (hw : w ≤ v) where
-  size : 10 ^ w * 10 ^ (v - w) ≡ 10 ^ v
-  size = sym (pow-add 10 w (v - w)) ∙ ap (λ (x : ℕ). 10 ^ x) (let g : w + (v - w) ≡ v = omega arith in g)
+-- f is below 10^v, has the kind that K says of v and w, and all holds that is asked
+unfoldable pub fits : (ℕ → ℕ → Bool) → List Relation → ℕ → Bool
+fits K c q = both (ltb (fOf q) (10 ^ vOf q)) (both (K (vOf q) (W q)) (fraction (vOf q) (W q) c (T q)))
 
-  -- where the search for t fails below a bound, so does f below that bound's multiple
-  miss : (bound : ℕ) → ((j : ℕ) → j < bound → passesAll (queryT (v - w) w) c j ≡ false) → (f : ℕ) → f < 10 ^ v → (Parts v f w (tOf v f) → tOf v f < bound) → fits v w c f ≡ false
-  unfolding passesAll fraction
-  miss bound none f h below = fits-not v w c f at
+-- what fits a kind
+pub record Fits (K : ℕ → ℕ → Bool) (c : List Relation) (q : ℕ) : Type 0 where
+  pub below : fOf q < 10 ^ vOf q
+  pub parts : Parts (vOf q) (fOf q) (W q) (T q)
+  pub kind : K (vOf q) (W q) ≡ true
+  pub settled : all (settledF (vOf q) (W q)) c ≡ true
+  pub asks : all (λ (r : Relation). passes (queryT (vOf q - W q)) r (T q)) c ≡ true
+
+fits-of : (K : ℕ → ℕ → Bool) (c : List Relation) (q : ℕ) → fits K c q ≡ true → Fits K c q
+unfolding fits fraction
+fits-of K c q h =
+    let a = both-held _ _ h in
+    let b = both-held _ _ (a .1) in
+    let d = both-held _ _ (b .1) in
+    let l = ltb-true (fOf q) (10 ^ vOf q) (a .0) in
+    record { below = l; parts = parts (vOf q) (fOf q) l; kind = b .0; settled = d .0; asks = d .1 }
+
+-- a bound that whatever fits keeps is a bound below which nothing fits
+unfit : (K : ℕ → ℕ → Bool) (c : List Relation) (r : ℕ) → ((q : ℕ) → q < fractions → Fits K c q → r ≤ q) → (q : ℕ) → q < fractions → q < r → fits K c q ≡ false
+unfit K c r h q l b = tested (fits K c q) (λ e. absurd (let g = h q l (fits-of K c q e) in omega arith)) (λ e. e)
+
+-- ---- f is 0
+
+abbrev pub isWhole : ℕ → ℕ → Bool
+isWhole v w = eqb w 0
+
+-- what is asked of 0 does not depend on the zeros after it
+zero-asked : (k : ℕ) (c : List Relation) → all (λ (r : Relation). passes (queryT k) r 0) c ≡ all (λ (r : Relation). passes (queryT 0) r 0) c
+unfolding passes factor
+zero-asked k [] = refl
+zero-asked k (r ∷ rs) = ap₂ both (one (r .operand)) (zero-asked k rs)
+  where
+    Asks : ℕ → ℕ → Type 0
+    Asks s u = (if not (eqb s 0) then test r (0 * s) else true) ≡ (if not (eqb u 0) then test r (0 * u) else true)
+
+    pos : Asks (10 ^ k) 1
+    pos = rw (ne-eqb (10 ^ k) 0 (λ z. omega (arith, power-pos k)), zero-mul (10 ^ k))
+
+    pick : (a b d e : Bool)
+        → Asks (if a then 0 else if b then 0 else if d then 10 ^ k else if e then 1 else 0) (if a then 0 else if b then 0 else if d then 1 else if e then 1 else 0)
+    pick true b d e = refl
+    pick false true d e = refl
+    pick false false true e = pos
+    pick false false false true = refl
+    pick false false false false = refl
+
+    one : (o : ℕ) → Asks (if eqb o 110 then 0 else if eqb o 105 then 0 else if eqb o 102 then 10 ^ k else if eqb o 116 then 1 else 0) (if eqb o 110 then 0 else if eqb o 105 then 0 else if eqb o 102 then 1 else if eqb o 116 then 1 else 0)
+    one o = pick (eqb o 110) (eqb o 105) (eqb o 102) (eqb o 116)
+
+zero-parts : (v : ℕ) → Parts v 0 0 0
+zero-parts v = record { w-le = omega arith; whole = zero-mul (10 ^ (v - 0)); t-lt = omega arith; odd = λ n z. n refl }
+
+module _ (c : List Relation) where
+  abbrev v₀ : ℕ
+  v₀ = seek (λ v. all (settledF v 0) c) (suc maxPlaces) 0
+
+  sought : Least (λ v. all (settledF v 0) c) 0 (suc maxPlaces) v₀
+  sought = seek-least (λ v. all (settledF v 0) c) (suc maxPlaces) 0
+
+  -- what fits has f 0, and its v is settled
+  zero-t : (q : ℕ) → Fits isWhole c q → T q ≡ 0
+  zero-t q g =
+      let z = eqb-true (W q) 0 (g .kind) in
+      let h : T q < 10 ^ 0 = subst (λ (x : ℕ). T q < 10 ^ x) z (g .parts .t-lt) in
+      omega arith
+
+  asks-zero : (q : ℕ) → Fits isWhole c q → all (λ (r : Relation). passes (queryT 0) r 0) c ≡ true
+  asks-zero q g =
+      sym (zero-asked (vOf q - W q) c)
+      ∙ subst (λ (x : ℕ). all (λ (r : Relation). passes (queryT (vOf q - W q)) r x) c ≡ true) (zero-t q g) (g .asks)
+
+  settled-zero : (q : ℕ) → q < fractions → Fits isWhole c q → v₀ ≤ vOf q
+  settled-zero q h g =
+      ⊎-elim (λ k. not-both (subst (λ (x : ℕ). all (settledF (vOf q) x) c ≡ true) (eqb-true (W q) 0 (g .kind)) (g .settled)) (sought .none (vOf q) (omega arith) k)) (λ k. k)
+      (split (vOf q) v₀)
+
+  whole-hit : all (λ (r : Relation). passes (queryT 0) r 0) c ≡ true → v₀ ≤ maxPlaces → fits isWhole c (v₀ * 10 ^ maxPlaces) ≡ true
+  unfolding fits fraction
+  whole-hit a h =
+      let v-is : vOf (v₀ * 10 ^ maxPlaces) ≡ v₀ = omega arith in
+      let f-is : fOf (v₀ * 10 ^ maxPlaces) ≡ 0 = omega arith in
+      let p = parts v₀ 0 (power-pos v₀) in
+      ap₂ (λ (v f : ℕ). both (ltb f (10 ^ v)) (both (eqb (wOf v f) 0) (both (all (settledF v (wOf v f)) c) (all (λ (r : Relation). passes (queryT (v - wOf v f)) r (tOf v f)) c)))) v-is f-is
+      ∙ and-true (lt-ltb _ _ (power-pos v₀))
+      (ap₂ (λ (w t : ℕ). both (eqb w 0) (both (all (settledF v₀ w) c) (all (λ (r : Relation). passes (queryT (v₀ - w)) r t) c))) (parts-w p (zero-parts v₀)) (parts-t p (zero-parts v₀))
+      ∙ and-true (sought .hit (omega arith)) (zero-asked (v₀ - 0) c ∙ a))
+
+  whole-least : Least (fits isWhole c) 0 fractions (wholeCode c)
+  unfolding wholeCode
+  whole-least = go (all (λ (r : Relation). passes (queryT 0) r 0) c) refl
     where
-      at : wOf v f ≡ w → fraction v w c (tOf v f) ≡ false
-      at e =
-          let p = subst (λ (x : ℕ). Parts v f x (tOf v f)) e (parts v f h) in
-          and-false-right (all (settledF v w) c)
-          (subst (λ (b : Bool). both b (all (λ (r : Relation). passes (queryT (v - w) w) r (tOf v f)) c) ≡ false) (ends-odd (v - w) w (tOf v f) (p .odd)) (none (tOf v f) (below p)))
-
-  found-at : (t : ℕ) → t < 10 ^ w → all (settledF v w) c ≡ true → passesAll (queryT (v - w) w) c t ≡ true → fits v w c (t * 10 ^ (v - w)) ≡ true
-  unfolding passesAll fits fraction
-  found-at t h s e =
-      let b = both-held _ _ e in
-      let top : t * 10 ^ (v - w) < 10 ^ w * 10 ^ (v - w) = mul-lt-mul-of-pos-right h (power-pos (v - w)) in
-      let f = t * 10 ^ (v - w) in
-      let p : Parts v (t * 10 ^ (v - w)) w t = record { w-le = hw; whole = refl; t-lt = h; odd = odd-ends (v - w) w t (b .0) } in
-      let q = parts v (t * 10 ^ (v - w)) (omega (arith, size)) in
-      and-true (eq-eqb _ _ (parts-w q p)) (and-true s (ap (λ (y : ℕ). all (λ (r : Relation). passes (queryT (v - w) w) r y) c) (parts-t q p) ∙ b .1))
-
-  searched : Least (passesAll (queryT (v - w) w) c) 0 (10 ^ w) (search (queryT (v - w) w) c 0 (10 ^ w))
-  searched = search-least (queryT (v - w) w) c 0 (10 ^ w) (omega arith)
-
-  settled : all (settledF v w) c ≡ true → (t : ℕ) → Least (passesAll (queryT (v - w) w) c) 0 (10 ^ w) t → Least (fits v w c) 0 (10 ^ v) (if ltb t (10 ^ w) then t * 10 ^ (v - w) else 10 ^ v)
-  settled s t l = choice (Least (fits v w c) 0 (10 ^ v)) (ltb t (10 ^ w)) (λ h. hit (ltb-true _ _ h)) (λ h. none (ltb-false _ _ h))
-    where
-      hit : t < 10 ^ w → Least (fits v w c) 0 (10 ^ v) (t * 10 ^ (v - w))
-      hit h =
-          let top : t * 10 ^ (v - w) < 10 ^ w * 10 ^ (v - w) = mul-lt-mul-of-pos-right h (power-pos (v - w)) in
+      go : (b : Bool) → all (λ (r : Relation). passes (queryT 0) r 0) c ≡ b → Least (fits isWhole c) 0 fractions (elim b [ true ↦ v₀ * 10 ^ maxPlaces | false ↦ fractions ])
+      go true a =
           record {
             low = omega arith;
-            high = omega (arith, size);
-            none = λ j _ b. miss t (λ i k. l .none i (omega arith) k) j (omega (arith, size))
-                (λ p. ⊎-elim (λ k. k) (λ k. absurd (let g = mul-le-mul-right (10 ^ (v - w)) k in omega (arith, p .whole))) (split (tOf v j) t));
-            hit = λ _. found-at t h s (l .hit h);
+            high = omega (arith, sought .high);
+            none = λ j _ h. unfit isWhole c (v₀ * 10 ^ maxPlaces) (λ q l g. let s = settled-zero q l g in omega arith) j (omega (arith, sought .high)) h;
+            hit = λ h. whole-hit a (omega arith);
+          }
+      go false a = least-none (fits isWhole c) 0 fractions (omega arith) (λ j _ h. unfit isWhole c fractions (λ q l g. not-both (asks-zero q g) a) j h h)
+
+-- ---- f ends in k zeros, and is not 0
+
+abbrev pub isTail : ℕ → ℕ → ℕ → Bool
+isTail k v w = both (ltb k v) (eqb w (v - k))
+
+module _ (k : ℕ) (hk : k < maxPlaces) (c : List Relation) where
+  abbrev t : ℕ
+  t = tailOf k c
+
+  searched : Least (passesAll (queryT k) c) 0 (10 ^ (maxPlaces - k)) (tailOf k c)
+  unfolding tailOf
+  searched = search-least (queryT k) c 0 (10 ^ (maxPlaces - k)) (omega arith)
+
+  abbrev v : ℕ
+  v = tailPlaces k (tailOf k c) c
+
+  abbrev good : ℕ → Bool
+  good u = both (all (settledF u (u - k)) c) (ltb (tailOf k c) (10 ^ (u - k)))
+
+  placed-at : Least (λ u. both (all (settledF u (u - k)) c) (ltb (tailOf k c) (10 ^ (u - k)))) (suc k) (suc maxPlaces) (tailPlaces k (tailOf k c) c)
+  unfolding tailPlaces
+  placed-at = subst (λ (x : ℕ). Least (λ u. both (all (settledF u (u - k)) c) (ltb (tailOf k c) (10 ^ (u - k)))) (suc k) x (seek (λ u. both (all (settledF u (u - k)) c) (ltb (tailOf k c) (10 ^ (u - k)))) (maxPlaces - k) (suc k)))
+      (let g : suc k + (maxPlaces - k) ≡ suc maxPlaces = omega arith in g)
+      (seek-least (λ u. both (all (settledF u (u - k)) c) (ltb (tailOf k c) (10 ^ (u - k)))) (maxPlaces - k) (suc k))
+
+  -- what fits: k < v, w = v - k, f = t' * 10 ^ k, and t' passes the search
+  module _ (q : ℕ) (hq : q < fractions) (g : Fits (isTail k) c q) where
+    after : k < vOf q
+    after = ltb-true k (vOf q) (both-held _ _ (g .kind) .0)
+
+    w-is : W q ≡ vOf q - k
+    w-is = eqb-true (W q) (vOf q - k) (both-held (ltb k (vOf q)) _ (g .kind) .1)
+
+    tail : vOf q - W q ≡ k
+    tail = let e = w-is in let a = after in omega arith
+
+    f-is : T q * 10 ^ k ≡ fOf q
+    f-is = subst (λ (x : ℕ). T q * 10 ^ x ≡ fOf q) tail (g .parts .whole)
+
+    t-lt : T q < 10 ^ (vOf q - k)
+    t-lt = subst (λ (x : ℕ). T q < 10 ^ x) w-is (g .parts .t-lt)
+
+    in-range : T q < 10 ^ (maxPlaces - k)
+    in-range = let m : 10 ^ (vOf q - k) ≤ 10 ^ (maxPlaces - k) = power-mono {j = maxPlaces - k} (omega arith) in omega (arith, t-lt)
+
+    pass : passesAll (queryT k) c (T q) ≡ true
+    unfolding passesAll ends
+    pass =
+        and-true (ap not (ne-eqb (T q % 10) 0 (g .parts .odd (λ z. let e = w-is in let a = after in omega arith))))
+        (subst (λ (x : ℕ). all (λ (r : Relation). passes (queryT x) r (T q)) c ≡ true) tail (g .asks))
+
+    no-less-t : tailOf k c ≤ T q
+    no-less-t = ⊎-elim (λ h. not-both pass (searched .none (T q) (omega arith) h)) (λ h. h) (split (T q) (tailOf k c))
+
+    no-less-v : tailPlaces k (tailOf k c) c ≤ vOf q
+    no-less-v = ⊎-elim (λ h. not-both
+        (and-true (subst (λ (x : ℕ). all (settledF (vOf q) x) c ≡ true) w-is (g .settled)) (lt-ltb (tailOf k c) (10 ^ (vOf q - k)) (let a = t-lt in let b = no-less-t in omega arith)))
+        (placed-at .none (vOf q) (let a = after in omega arith) h)) (λ h. h) (split (vOf q) (tailPlaces k (tailOf k c) c))
+
+    -- so its code is no less
+    no-less : tailPlaces k (tailOf k c) c * 10 ^ maxPlaces + tailOf k c * 10 ^ k ≤ q
+    no-less =
+        let a = no-less-v in
+        let b = mul-le-mul-right (10 ^ k) no-less-t in
+        let d = f-is in
+        omega arith
+
+  module _ (hv : tailPlaces k (tailOf k c) c ≤ maxPlaces) where
+    held : (all (settledF (tailPlaces k (tailOf k c) c) (tailPlaces k (tailOf k c) c - k)) c ≡ true) × (ltb (tailOf k c) (10 ^ (tailPlaces k (tailOf k c) c - k)) ≡ true)
+    held = both-held _ _ (placed-at .hit (omega arith))
+
+    t-small : tailOf k c < 10 ^ (tailPlaces k (tailOf k c) c - k)
+    t-small = ltb-true _ _ (held .1)
+
+    t-range : tailOf k c < 10 ^ (maxPlaces - k)
+    t-range = let m : 10 ^ (tailPlaces k (tailOf k c) c - k) ≤ 10 ^ (maxPlaces - k) = power-mono {j = maxPlaces - k} (omega arith) in omega (arith, t-small)
+
+    t-passes : passesAll (queryT k) c (tailOf k c) ≡ true
+    t-passes = searched .hit t-range
+
+    t-parts : Parts (tailPlaces k (tailOf k c) c) (tailOf k c * 10 ^ k) (tailPlaces k (tailOf k c) c - k) (tailOf k c)
+    unfolding passesAll ends
+    t-parts =
+        record {
+          w-le = omega arith;
+          whole = ap (λ (x : ℕ). tailOf k c * 10 ^ x) (let e : tailPlaces k (tailOf k c) c - (tailPlaces k (tailOf k c) c - k) ≡ k = omega (arith, placed-at .low) in e);
+          t-lt = t-small;
+          odd = λ _. eqb-false (tailOf k c % 10) 0 (not-true _ (both-held _ _ t-passes .0));
+        }
+
+    f-below : tailOf k c * 10 ^ k < 10 ^ tailPlaces k (tailOf k c) c
+    f-below =
+        let a : tailOf k c * 10 ^ k < 10 ^ (tailPlaces k (tailOf k c) c - k) * 10 ^ k = mul-lt-mul-of-pos-right t-small (power-pos k) in
+        let b = pow-add 10 (tailPlaces k (tailOf k c) c - k) k in
+        let d : 10 ^ (tailPlaces k (tailOf k c) c - k + k) ≡ 10 ^ tailPlaces k (tailOf k c) c = ap (λ (x : ℕ). 10 ^ x) (let e : tailPlaces k (tailOf k c) c - k + k ≡ tailPlaces k (tailOf k c) c = omega (arith, placed-at .low) in e) in
+        omega arith
+
+    f-narrow : tailOf k c * 10 ^ k < 10 ^ maxPlaces
+    f-narrow = let m : 10 ^ tailPlaces k (tailOf k c) c ≤ 10 ^ maxPlaces = power-mono hv in omega (arith, f-below)
+
+    tail-hit : fits (isTail k) c (tailPlaces k (tailOf k c) c * 10 ^ maxPlaces + tailOf k c * 10 ^ k) ≡ true
+    unfolding fits fraction passesAll
+    tail-hit =
+        let v-is : vOf (tailPlaces k (tailOf k c) c * 10 ^ maxPlaces + tailOf k c * 10 ^ k) ≡ tailPlaces k (tailOf k c) c = omega (arith, f-narrow) in
+        let f-is : fOf (tailPlaces k (tailOf k c) c * 10 ^ maxPlaces + tailOf k c * 10 ^ k) ≡ tailOf k c * 10 ^ k = omega (arith, f-narrow) in
+        let p = parts (tailPlaces k (tailOf k c) c) (tailOf k c * 10 ^ k) f-below in
+        ap₂ (λ (v f : ℕ). both (ltb f (10 ^ v)) (both (both (ltb k v) (eqb (wOf v f) (v - k))) (both (all (settledF v (wOf v f)) c) (all (λ (r : Relation). passes (queryT (v - wOf v f)) r (tOf v f)) c)))) v-is f-is
+        ∙ and-true (lt-ltb _ _ f-below)
+        (ap₂ (λ (w t : ℕ). both (both (ltb k v) (eqb w (v - k))) (both (all (settledF v w) c) (all (λ (r : Relation). passes (queryT (v - w)) r t) c))) (parts-w p t-parts) (parts-t p t-parts)
+        ∙ and-true (and-true (lt-ltb k v (placed-at .low)) (eq-eqb (v - k) (v - k) refl))
+        (and-true (held .0) (ap (λ (x : ℕ). all (λ (r : Relation). passes (queryT x) r (tailOf k c)) c) (let e : v - (v - k) ≡ k = omega (arith, placed-at .low) in e) ∙ both-held (ends (queryT k) (tailOf k c)) _ t-passes .1)))
+
+  tail-least : Least (fits (isTail k) c) 0 fractions (tailCode k c)
+  unfolding tailCode
+  tail-least = choice (Least (fits (isTail k) c) 0 fractions) (leb (tailPlaces k (tailOf k c) c) maxPlaces) (λ e. hit (leb-true _ _ e)) (λ e. none (leb-false _ _ e))
+    where
+      hit : tailPlaces k (tailOf k c) c ≤ maxPlaces → Least (fits (isTail k) c) 0 fractions (tailPlaces k (tailOf k c) c * 10 ^ maxPlaces + tailOf k c * 10 ^ k)
+      hit h =
+          record {
+            low = omega arith;
+            high = omega (arith, f-narrow h);
+            none = λ j _ b. unfit (isTail k) c _ no-less j (omega (arith, f-narrow h)) b;
+            hit = λ _. tail-hit h;
           }
 
-      none : 10 ^ w ≤ t → Least (fits v w c) 0 (10 ^ v) (10 ^ v)
-      none h = least-none (fits v w c) 0 (10 ^ v) (omega arith) (λ j _ b. miss (10 ^ w) (λ i k. l .none i (omega arith) (omega arith)) j b (λ p. p .t-lt))
+      none : maxPlaces < tailPlaces k (tailOf k c) c → Least (fits (isTail k) c) 0 fractions fractions
+      none h = least-none (fits (isTail k) c) 0 fractions (omega arith) (λ j _ b. unfit (isTail k) c fractions (λ q l g. let s = no-less-v q l g in omega arith) j b b)
 
-  pub fraction-least : Least (fits v w c) 0 (10 ^ v) (fractionAt v w c)
-  unfolding fractionAt fraction
-  fraction-least = go (all (settledF v w) c) refl
-    where
-      go : (b : Bool) → all (settledF v w) c ≡ b → Least (fits v w c) 0 (10 ^ v)
-          (elim b [ true ↦ (let t = search (queryT (v - w) w) c 0 (10 ^ w) in if ltb t (10 ^ w) then t * 10 ^ (v - w) else 10 ^ v) | false ↦ 10 ^ v ])
-      go true s = settled s _ searched
-      go false s = least-none (fits v w c) 0 (10 ^ v) (omega arith) (λ j _ b. fits-not v w c j (λ e. and-false-left _ s))
+-- ---- f is not 0
 
--- ---- the fractions other than 0
+unfoldable pub partFits : ℕ → List Relation → ℕ → Bool
+partFits zero c q = false
+partFits (suc k) c q = either (partFits k c q) (fits (isTail k) c q)
 
-unfoldable pub partFits : ℕ → ℕ → List Relation → ℕ → Bool
-partFits v zero c f = false
-partFits v (suc w) c f = either (partFits v w c f) (fits v (suc w) c f)
-
-part-least : (v : ℕ) (c : List Relation) (n : ℕ) → n ≤ v → Least (partFits v n c) 0 (10 ^ v) (partAt v n c)
-unfolding partFits partAt
-part-least v c zero h = least-none (λ _. false) 0 (10 ^ v) (omega arith) (λ j a b. refl)
-part-least v c (suc n) h = least-or (part-least v c n (omega arith)) (fraction-least v (suc n) c h)
+part-least : (c : List Relation) (n : ℕ) → n ≤ maxPlaces → Least (partFits n c) 0 fractions (partCode n c)
+unfolding partFits partCode
+part-least c zero h = least-none (λ _. false) 0 fractions (omega arith) (λ j a b. refl)
+part-least c (suc n) h = least-or (part-least c n (omega arith)) (tail-least n (omega arith) c)
 
 -- ---- either kind
 
-unfoldable pub kindFits : Bool → ℕ → List Relation → ℕ → Bool
-kindFits whole v c f = elim whole [ true ↦ fits v 0 c f | false ↦ partFits v v c f ]
+unfoldable pub kindFits : Bool → List Relation → ℕ → Bool
+kindFits whole c q = elim whole [ true ↦ fits isWhole c q | false ↦ partFits maxPlaces c q ]
 
-pub kind-least : (whole : Bool) (v : ℕ) (c : List Relation) → Least (kindFits whole v c) 0 (10 ^ v) (fractionOf whole v c)
-unfolding kindFits fractionOf
-kind-least true v c = fraction-least v 0 c (omega arith)
-kind-least false v c = part-least v c v (omega arith)
+pub kind-least : (whole : Bool) (c : List Relation) → Least (kindFits whole c) 0 fractions (fractionCode whole c)
+unfolding kindFits fractionCode
+kind-least true c = whole-least c
+kind-least false c = part-least c maxPlaces (omega arith)
 
--- at an f below 10 ^ v: the kind is that of its w
-module _ (v : ℕ) (c : List Relation) (f : ℕ) where
-  abbrev W : ℕ
-  W = wOf v f
-
+-- at one v and f: its kind is that of its w
+module _ (c : List Relation) (q : ℕ) (hq : q < fractions) where
   abbrev G : Bool
-  G = fraction v (wOf v f) c (tOf v f)
+  G = fraction (vOf q) (W q) c (T q)
 
-  fits-other : (w : ℕ) → (wOf v f ≡ w → ⊥) → fits v w c f ≡ false
-  fits-other w n = fits-not v w c f (λ e. absurd (n e))
-
-  fits-own : fits v (wOf v f) c f ≡ fraction v (wOf v f) c (tOf v f)
+  fits-other : (K : ℕ → ℕ → Bool) → K (vOf q) (W q) ≡ false → fits K c q ≡ false
   unfolding fits
-  fits-own = ap (λ (b : Bool). both b (fraction v (wOf v f) c (tOf v f))) (eq-eqb (wOf v f) (wOf v f) refl)
+  fits-other K e = and-false-right (ltb (fOf q) (10 ^ vOf q)) (and-false-left G e)
 
-  part-other : (n : ℕ) → (wOf v f ≡ 0) ⊎ (n < wOf v f) → partFits v n c f ≡ false
+  fits-long : (K : ℕ → ℕ → Bool) → ltb (fOf q) (10 ^ vOf q) ≡ false → fits K c q ≡ false
+  unfolding fits
+  fits-long K e = and-false-left (both (K (vOf q) (W q)) G) e
+
+  fits-own : (K : ℕ → ℕ → Bool) → ltb (fOf q) (10 ^ vOf q) ≡ true → K (vOf q) (W q) ≡ true → fits K c q ≡ G
+  unfolding fits
+  fits-own K e f = ap₂ (λ (a b : Bool). both a (both b G)) e f
+
+  -- too long a fraction is of no kind
+  part-long : ltb (fOf q) (10 ^ vOf q) ≡ false → (n : ℕ) → partFits n c q ≡ false
   unfolding partFits
-  part-other zero h = refl
-  part-other (suc n) h =
-      ap₂ either (part-other n (⊎-elim _⊎_.inl (λ k. _⊎_.inr (omega arith)) h))
-      (fits-other (suc n) (⊎-elim (λ k z. omega arith) (λ k z. omega arith) h))
+  part-long e zero = refl
+  part-long e (suc n) = or-false (part-long e n) (fits-long (isTail n) e)
 
-  part-own : (n : ℕ) → (wOf v f ≡ 0 → ⊥) → wOf v f ≤ n → partFits v n c f ≡ fraction v (wOf v f) c (tOf v f)
-  unfolding partFits
-  part-own zero z h = absurd (z (omega arith))
-  part-own (suc n) z h =
-      ⊎-elim (λ k. ap₂ either (part-own n z (omega arith)) (fits-other (suc n) (λ e. omega arith)) ∙ or-none (fraction v (wOf v f) c (tOf v f)))
-      (λ k. ap₂ either (part-other n (_⊎_.inr (omega arith))) (subst (λ (y : ℕ). fits v y c f ≡ fraction v (wOf v f) c (tOf v f)) (let g : wOf v f ≡ suc n = omega arith in g) fits-own))
-      (split (wOf v f) (suc n))
-    where
-      or-none : (a : Bool) → either a false ≡ a
-      or-none true = refl
-      or-none false = refl
-
-  -- of the two kinds with their tests I₀ and I₁, only that of w counts
-  pub kind-is : f < 10 ^ v → (I : Bool → Bool) → either (both (kindFits true v c f) (I true)) (both (kindFits false v c f) (I false)) ≡ both (fraction v (wOf v f) c (tOf v f)) (I (eqb (wOf v f) 0))
+  pub kind-long : ltb (fOf q) (10 ^ vOf q) ≡ false → (whole : Bool) → kindFits whole c q ≡ false
   unfolding kindFits
-  kind-is h I = tested (eqb (wOf v f) 0) none some
-    where
-      none : eqb (wOf v f) 0 ≡ true → either (both (fits v 0 c f) (I true)) (both (partFits v v c f) (I false)) ≡ both (fraction v (wOf v f) c (tOf v f)) (I (eqb (wOf v f) 0))
-      none e =
-          let z = eqb-true (wOf v f) 0 e in
-          ap₂ (λ (a b : Bool). either (both a (I true)) (both b (I false))) (subst (λ (y : ℕ). fits v y c f ≡ fraction v (wOf v f) c (tOf v f)) z fits-own) (part-other v (_⊎_.inl z))
-          ∙ left (both (fraction v (wOf v f) c (tOf v f)) (I true)) ∙ ap (λ (b : Bool). both (fraction v (wOf v f) c (tOf v f)) (I b)) (sym e)
-        where
-          left : (a : Bool) → either a false ≡ a
-          left true = refl
-          left false = refl
+  kind-long e true = fits-long isWhole e
+  kind-long e false = part-long e maxPlaces
 
-      some : eqb (wOf v f) 0 ≡ false → either (both (fits v 0 c f) (I true)) (both (partFits v v c f) (I false)) ≡ both (fraction v (wOf v f) c (tOf v f)) (I (eqb (wOf v f) 0))
-      some e =
-          let z = eqb-false (wOf v f) 0 e in
-          ap₂ (λ (a b : Bool). either (both a (I true)) (both b (I false))) (fits-other 0 z) (part-own v z (parts v f h .w-le))
-          ∙ ap (λ (b : Bool). both (fraction v (wOf v f) c (tOf v f)) (I b)) (sym e)
+  module _ (h : fOf q < 10 ^ vOf q) where
+    p : Parts (vOf q) (fOf q) (W q) (T q)
+    p = parts (vOf q) (fOf q) h
 
--- ---- the least count of places
+    not-tail : (k : ℕ) → (W q ≡ 0) ⊎ (k < vOf q - W q) → isTail k (vOf q) (W q) ≡ false
+    not-tail k a =
+        tested (ltb k (vOf q))
+        (λ e. and-false-right (ltb k (vOf q)) (ne-eqb (W q) (vOf q - k) (λ z. let l = ltb-true k (vOf q) e in let m = p .w-le in ⊎-elim (λ b. omega arith) (λ b. omega arith) a)))
+        (λ e. and-false-left (eqb (W q) (vOf q - k)) e)
 
-pub places-least : (whole : Bool) (c : List Relation) → Least (λ v. ltb (fractionOf whole v c) (10 ^ v)) 0 (suc maxPlaces) (placesOf whole c)
-unfolding placesOf
-places-least whole c = seek-least (λ v. ltb (fractionOf whole v c) (10 ^ v)) (suc maxPlaces) 0
+    part-other : (n : ℕ) → (W q ≡ 0) ⊎ (n ≤ vOf q - W q) → partFits n c q ≡ false
+    unfolding partFits
+    part-other zero a = refl
+    part-other (suc n) a =
+        or-false (part-other n (⊎-elim _⊎_.inl (λ b. _⊎_.inr (omega arith)) a))
+        (fits-other (isTail n) (not-tail n (⊎-elim _⊎_.inl (λ b. _⊎_.inr (omega arith)) a)))
+
+    part-own : (n : ℕ) → (W q ≡ 0 → ⊥) → vOf q - W q < n → partFits n c q ≡ G
+    unfolding partFits
+    part-own zero z a = absurd (omega arith)
+    part-own (suc n) z a =
+        ⊎-elim (λ b. ap₂ either (part-own n z b) (fits-other (isTail n) (past b)) ∙ or-none G)
+        (λ b. ap₂ either (part-other n (_⊎_.inr (omega arith))) (fits-own (isTail n) (lt-ltb _ _ h) (here b)))
+        (split (vOf q - W q) n)
+      where
+        or-none : (a : Bool) → either a false ≡ a
+        or-none true = refl
+        or-none false = refl
+
+        past : vOf q - W q < n → isTail n (vOf q) (W q) ≡ false
+        past b =
+            tested (ltb n (vOf q))
+            (λ e. and-false-right (ltb n (vOf q)) (ne-eqb (W q) (vOf q - n) (λ y. let l = ltb-true n (vOf q) e in let m = p .w-le in omega arith)))
+            (λ e. and-false-left (eqb (W q) (vOf q - n)) e)
+
+        here : n ≤ vOf q - W q → isTail n (vOf q) (W q) ≡ true
+        here b =
+            let m = p .w-le in
+            let y : 0 < W q = ⊎-elim (λ k. absurd (z (omega arith))) (λ k. k) (split (W q) 1) in
+            and-true (lt-ltb n (vOf q) (omega arith)) (eq-eqb (W q) (vOf q - n) (omega arith))
+
+    -- of the two kinds, each with a test of its own, only that of w counts
+    pub kind-is : (I : Bool → Bool) → either (both (kindFits true c q) (I true)) (both (kindFits false c q) (I false)) ≡ both (fraction (vOf q) (W q) c (T q)) (I (eqb (W q) 0))
+    unfolding kindFits
+    kind-is I = tested (eqb (W q) 0) none some
+      where
+        left : (a : Bool) → either a false ≡ a
+        left true = refl
+        left false = refl
+
+        none : eqb (W q) 0 ≡ true → either (both (fits isWhole c q) (I true)) (both (partFits maxPlaces c q) (I false)) ≡ both (fraction (vOf q) (W q) c (T q)) (I (eqb (W q) 0))
+        none e =
+            ap₂ (λ (a b : Bool). either (both a (I true)) (both b (I false))) (fits-own isWhole (lt-ltb _ _ h) e) (part-other maxPlaces (_⊎_.inl (eqb-true (W q) 0 e)))
+            ∙ left (both G (I true)) ∙ ap (λ (b : Bool). both G (I b)) (sym e)
+
+        some : eqb (W q) 0 ≡ false → either (both (fits isWhole c q) (I true)) (both (partFits maxPlaces c q) (I false)) ≡ both (fraction (vOf q) (W q) c (T q)) (I (eqb (W q) 0))
+        some e =
+            let z = eqb-false (W q) 0 e in
+            let y : 0 < W q = ⊎-elim (λ k. absurd (z (omega arith))) (λ k. k) (split (W q) 1) in
+            ap₂ (λ (a b : Bool). either (both a (I true)) (both b (I false))) (fits-other isWhole e) (part-own maxPlaces z (let m = p .w-le in omega arith))
+            ∙ ap (λ (b : Bool). both G (I b)) (sym e)

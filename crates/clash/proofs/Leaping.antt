@@ -17,7 +17,7 @@ use Rattle.least.specs.Leap.{between, far, into, outOf, upwards, windowEnd, win
 use Rattle.least.proofs.Seeking.{split, and-false-right, and-true, or-false, leap-and, leap-or}
 use Rattle.least.proofs.Ranges.{leap-same, leap-here, leap-never, into-leap, out-leap, upwards-leap}
 use Rattle.least.proofs.Windows.{end-enough, window-least}
-use Rattle.clash.specs.Fast.{test, intoAny, outOfAll, leapTest, Query, factor, asked, passes, ends, passesAll, leapOne, leapEnd, leapEach, leapAll, top, reach, leastPeriod, period, divides, repeats, searchEnd, search}
+use Rattle.clash.specs.Fast.{test, intoAny, outOfAll, leapTest, Query, factor, asked, passes, ends, passesAll, leapOne, leapEnd, leapEach, leapAll, top, reach, leastPeriod, largest, period, divides, repeats, searchEnd, search}
 
 -- ---- leaps
 
@@ -176,13 +176,11 @@ repeats-same q c p d x h =
     ap₂ both (ends-same q p x (s .0)) (each-same q c p x h (s .1))
 
 pub period-pos : (q : Query) (c : List Relation) → 0 < period q c
-unfolding period
-period-pos q [] = go (q .odd)
+period-pos q c = go (q .odd)
   where
-    go : (o : Bool) → 0 < (if o then 10 else 1)
+    go : (o : Bool) → 0 < max (if o then 10 else 1) (largest q c)
     go true = omega arith
     go false = omega arith
-period-pos q (r ∷ rs) = omega (arith, period-pos q rs)
 
 -- ---- the search
 

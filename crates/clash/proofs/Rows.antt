@@ -10,7 +10,7 @@ use Rattle.rules.specs.Syntax.{Range, Relation, Rule}
 use Rattle.least.specs.Seek.{seek}
 use Rattle.least.specs.Leap.{into, outOf, walk, windowEnd, window}
 use Rattle.clash.specs.Check.{against, firstPair, checkOf}
-use Rattle.clash.specs.Fast.{test, intoAny, outOfAll, leapTest, factor, leapOne, leapEnd, leapEach, top, reach, period, repeats, search, ofExponent, settledE, settledF, fractionAt, partAt, fractionOf, placesOf, integerOf, kindRank, exponentRank, exponentsRank, clauseRank, fastRank, withEach, bothOf, fastCheck}
+use Rattle.clash.specs.Fast.{test, intoAny, outOfAll, leapTest, factor, leapOne, leapEnd, leapEach, top, reach, largest, repeats, passes, search, ofExponent, settledE, settledF, exponentOf, wholeCode, tailOf, tailPlaces, tailCode, partCode, fractionCode, integerOf, kindRank, clauseRank, fastRank, withEach, bothOf, fastCheck}
 use Rattle.clash.specs.declared.Checked.{Checked}
 use Rattle.clash.specs.declared.Checked.the-variants.{Passes, Clashes}
 use Rattle.clash.proofs.Joined.{check-fast}
@@ -31,7 +31,7 @@ abbrev pub packTens : List Rule
 packTens = rule One (relation 110 0 false 1 1) ∷ rule Few (relation 110 10 false 1 3) ∷ []
 
 fast-tens : fastCheck packTens ≡ clash 1 2 0 0 1 0
-unfolding seek into outOf walk windowEnd window against firstPair test intoAny outOfAll leapTest factor leapOne leapEnd leapEach top reach period repeats search ofExponent settledE settledF fractionAt partAt fractionOf placesOf integerOf kindRank exponentRank exponentsRank clauseRank fastRank withEach bothOf
+unfolding seek into outOf walk windowEnd window against firstPair test intoAny outOfAll leapTest factor leapOne leapEnd leapEach top reach largest repeats passes search ofExponent settledE settledF exponentOf wholeCode tailOf tailPlaces tailCode partCode fractionCode integerOf kindRank clauseRank fastRank withEach bothOf
 fast-tens = refl
 
 pub row-tens : checkOf packTens ≡ clash 1 2 0 0 1 0
@@ -42,7 +42,7 @@ abbrev pub packTrailing : List Rule
 packTrailing = rule One (relation 116 0 false 5 5) ∷ rule Two (relation 102 0 false 50 50) ∷ []
 
 fast-trailing : fastCheck packTrailing ≡ clash 1 2 0 2 0 50
-unfolding seek into outOf walk windowEnd window against firstPair test intoAny outOfAll leapTest factor leapOne leapEnd leapEach top reach period repeats search ofExponent settledE settledF fractionAt partAt fractionOf placesOf integerOf kindRank exponentRank exponentsRank clauseRank fastRank withEach bothOf
+unfolding seek into outOf walk windowEnd window against firstPair test intoAny outOfAll leapTest factor leapOne leapEnd leapEach top reach largest repeats passes search ofExponent settledE settledF exponentOf wholeCode tailOf tailPlaces tailCode partCode fractionCode integerOf kindRank clauseRank fastRank withEach bothOf
 fast-trailing = refl
 
 pub row-trailing : checkOf packTrailing ≡ clash 1 2 0 2 0 50
@@ -53,7 +53,7 @@ abbrev pub packSeven : List Rule
 packSeven = rule One (relation 105 0 true 0 999_999) ∷ rule Two (relation 105 10 false 7 7) ∷ []
 
 fast-seven : fastCheck packSeven ≡ clash 1 2 0 0 1_000_007 0
-unfolding seek into outOf walk windowEnd window against firstPair test intoAny outOfAll leapTest factor leapOne leapEnd leapEach top reach period repeats search ofExponent settledE settledF fractionAt partAt fractionOf placesOf integerOf kindRank exponentRank exponentsRank clauseRank fastRank withEach bothOf
+unfolding seek into outOf walk windowEnd window against firstPair test intoAny outOfAll leapTest factor leapOne leapEnd leapEach top reach largest repeats passes search ofExponent settledE settledF exponentOf wholeCode tailOf tailPlaces tailCode partCode fractionCode integerOf kindRank clauseRank fastRank withEach bothOf
 fast-seven = refl
 
 pub row-seven : checkOf packSeven ≡ clash 1 2 0 0 1_000_007 0
@@ -64,7 +64,7 @@ abbrev pub packTen : List Rule
 packTen = rule One (relation 118 0 false 10 10) ∷ rule Two (relation 118 0 false 10 10) ∷ []
 
 fast-ten : fastCheck packTen ≡ Passes
-unfolding seek into outOf walk windowEnd window against firstPair test intoAny outOfAll leapTest factor leapOne leapEnd leapEach top reach period repeats search ofExponent settledE settledF fractionAt partAt fractionOf placesOf integerOf kindRank exponentRank exponentsRank clauseRank fastRank withEach bothOf
+unfolding seek into outOf walk windowEnd window against firstPair test intoAny outOfAll leapTest factor leapOne leapEnd leapEach top reach largest repeats passes search ofExponent settledE settledF exponentOf wholeCode tailOf tailPlaces tailCode partCode fractionCode integerOf kindRank clauseRank fastRank withEach bothOf
 fast-ten = refl
 
 pub row-ten : checkOf packTen ≡ Passes

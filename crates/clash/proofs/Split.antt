@@ -30,7 +30,7 @@ module _ (negative : Bool) (e v i f w t : ℕ) (to : w ≡ 0 → f ≡ 0) (from 
     rel o = record { operand = o; modulus = m; negated = n; ranges = rs }
 
     abbrev Says : ℕ → Type 0
-    Says o = holds (rel o) x ≡ both (settledE e (rel o)) (both (settledF v w (rel o)) (both (passes (queryI (eqb w 0)) (rel o) i) (passes (queryT (v - w) w) (rel o) t)))
+    Says o = holds (rel o) x ≡ both (settledE e (rel o)) (both (settledF v w (rel o)) (both (passes (queryI (eqb w 0)) (rel o) i) (passes (queryT (v - w)) (rel o) t)))
 
     at-n : Says 110
     unfolding settledE settledF ofExponent passes factor test
@@ -83,16 +83,16 @@ module _ (negative : Bool) (e v i f w t : ℕ) (to : w ≡ 0 → f ≡ 0) (from 
         by : (l : ℕ) → eqb o l ≡ true → Says l → Says o
         by l k s = subst Says (sym (eqb-true o l k)) s
 
-  relation-split : (r : Relation) → holds r x ≡ both (settledE e r) (both (settledF v w r) (both (passes (queryI (eqb w 0)) r i) (passes (queryT (v - w) w) r t)))
+  relation-split : (r : Relation) → holds r x ≡ both (settledE e r) (both (settledF v w r) (both (passes (queryI (eqb w 0)) r i) (passes (queryT (v - w)) r t)))
   relation-split r = says (r .modulus) (r .negated) (r .ranges) (r .operand)
 
   pub clause-split : (c : List Relation) → clauseHolds c x
       ≡ both (all (settledE e) c)
       (both (all (settledF v w) c)
-      (both (all (λ (r : Relation). passes (queryI (eqb w 0)) r i) c) (all (λ (r : Relation). passes (queryT (v - w) w) r t) c)))
+      (both (all (λ (r : Relation). passes (queryI (eqb w 0)) r i) c) (all (λ (r : Relation). passes (queryT (v - w)) r t) c)))
   clause-split [] = refl
-  clause-split (r ∷ rs) = ap₂ both (relation-split r) (clause-split rs) ∙ mix (settledE e r) (settledF v w r) (passes (queryI (eqb w 0)) r i) (passes (queryT (v - w) w) r t)
-      (all (settledE e) rs) (all (settledF v w) rs) (all (λ (r : Relation). passes (queryI (eqb w 0)) r i) rs) (all (λ (r : Relation). passes (queryT (v - w) w) r t) rs)
+  clause-split (r ∷ rs) = ap₂ both (relation-split r) (clause-split rs) ∙ mix (settledE e r) (settledF v w r) (passes (queryI (eqb w 0)) r i) (passes (queryT (v - w)) r t)
+      (all (settledE e) rs) (all (settledF v w) rs) (all (λ (r : Relation). passes (queryI (eqb w 0)) r i) rs) (all (λ (r : Relation). passes (queryT (v - w)) r t) rs)
     where
       swap : (a b c d : Bool) → both (both a b) (both c d) ≡ both (both a c) (both b d)
       swap true true c d = refl

@@ -2,7 +2,7 @@
 -- one of t, where f = t * 10 ^ (v - w) and t does not end in 0 unless it is 0. So the least i and the least t of a clause are searched for apart.
 use mathlib.Core.Bool.{Bool, true, false, not}
 use mathlib.Core.List.{List, [], _∷_, _++_}
-use Prim.Native.Nat.{ℕ, zero, suc, _+_, _-_, _*_, _%_, _^_, min, max}
+use Prim.Native.Nat.{ℕ, zero, suc, _+_, _-_, _*_, _/_, _%_, _^_, min, max}
 use lib.Dec.{leb, ltb, eqb}
 use Rattle.decimal.specs.Choice.{if_then_else_, both, either}
 use Rattle.number.specs.Limits.{maxExponent, maxDigits, maxPlaces}
@@ -52,9 +52,9 @@ factor q o =
 abbrev pub queryI : Bool → Query
 queryI whole = record { n = if whole then 1 else 0; i = 1; f = 0; t = 0; odd = false }
 
--- a search for t, of w digits with k zeros after them
-abbrev pub queryT : ℕ → ℕ → Query
-queryT k w = record { n = 0; i = 0; f = 10 ^ k; t = 1; odd = not (eqb w 0) }
+-- a search for t other than 0, with k zeros after it
+abbrev pub queryT : ℕ → Query
+queryT k = record { n = 0; i = 0; f = 10 ^ k; t = 1; odd = true }
 
 abbrev pub asked : Query → Relation → Bool
 asked q r = not (eqb (factor q (r .operand)) 0)
@@ -95,9 +95,12 @@ reach q (r ∷ rs) = max (if both (asked q r) (eqb (r .modulus) 0) then top (r .
 abbrev pub leastPeriod : Query → ℕ
 leastPeriod q = if q .odd then 10 else 1
 
-unfoldable pub period : Query → List Relation → ℕ
-period q [] = leastPeriod q
-period q (r ∷ rs) = max (if asked q r then r .modulus else 0) (period q rs)
+unfoldable pub largest : Query → List Relation → ℕ
+largest q [] = 0
+largest q (r ∷ rs) = max (if asked q r then r .modulus else 0) (largest q rs)
+
+abbrev pub period : Query → List Relation → ℕ
+period q c = max (leastPeriod q) (largest q c)
 
 -- the modulus m divides p, or is none
 abbrev pub divides : ℕ → ℕ → Bool
@@ -135,60 +138,72 @@ settledF v w r =
     if eqb (r .operand) 119 then test r w else
     true
 
--- ---- a clause
+-- ---- a clause: the e, the v and f, and the i of its least number do not depend on one another, but that i depends on whether f is 0
 
--- the least f of v digits, w of them without trailing zeros; 10 ^ v where there is none
-unfoldable pub fractionAt : ℕ → ℕ → List Relation → ℕ
-fractionAt v w c =
-    elim (all (settledF v w) c) [
-      | true ↦
-          let t = search (queryT (v - w) w) c 0 (10 ^ w) in
-          if ltb t (10 ^ w) then t * 10 ^ (v - w) else 10 ^ v
-      | false ↦ 10 ^ v
-    ]
+-- the least e; more than maxExponent where there is none
+unfoldable pub exponentOf : List Relation → ℕ
+exponentOf c = seek (λ e. all (settledE e) c) (suc maxExponent) 0
 
--- the least f other than 0 of v digits, at most w of them without trailing zeros
-unfoldable pub partAt : ℕ → ℕ → List Relation → ℕ
-partAt v zero c = 10 ^ v
-partAt v (suc w) c = min (partAt v w c) (fractionAt v (suc w) c)
+-- v and f as one number, and how many there are
+abbrev pub fractions : ℕ
+fractions = suc maxPlaces * 10 ^ maxPlaces
 
--- the least f of v digits that is 0, or that is not
-unfoldable pub fractionOf : Bool → ℕ → List Relation → ℕ
-fractionOf whole v c = elim whole [ true ↦ fractionAt v 0 c | false ↦ partAt v v c ]
+-- the least v where f is 0, for any v
+unfoldable pub wholeCode : List Relation → ℕ
+wholeCode c =
+    elim (all (λ (r : Relation). passes (queryT 0) r 0) c)
+    [ true ↦ seek (λ v. all (settledF v 0) c) (suc maxPlaces) 0 * 10 ^ maxPlaces | false ↦ fractions ]
 
--- the least v at which there is such an f; more than maxPlaces where there is none
-unfoldable pub placesOf : Bool → List Relation → ℕ
-placesOf whole c = seek (λ v. ltb (fractionOf whole v c) (10 ^ v)) (suc maxPlaces) 0
+-- the least t before k zeros, for any v; and the least v and f with it
+unfoldable pub tailOf : ℕ → List Relation → ℕ
+tailOf k c = search (queryT k) c 0 (10 ^ (maxPlaces - k))
+
+unfoldable pub tailPlaces : ℕ → ℕ → List Relation → ℕ
+tailPlaces k t c = seek (λ v. both (all (settledF v (v - k)) c) (ltb t (10 ^ (v - k)))) (maxPlaces - k) (suc k)
+
+unfoldable pub tailCode : ℕ → List Relation → ℕ
+tailCode k c =
+    let t = tailOf k c in
+    let v = tailPlaces k t c in
+    if leb v maxPlaces then v * 10 ^ maxPlaces + t * 10 ^ k else fractions
+
+-- the least v and f where f is not 0, and ends in fewer than n zeros
+unfoldable pub partCode : ℕ → List Relation → ℕ
+partCode zero c = fractions
+partCode (suc k) c = min (partCode k c) (tailCode k c)
+
+-- the least v and f, where f is 0, or where it is not
+unfoldable pub fractionCode : Bool → List Relation → ℕ
+fractionCode whole c = elim whole [ true ↦ wholeCode c | false ↦ partCode maxPlaces c ]
 
 -- the least i at e
 unfoldable pub integerOf : Bool → ℕ → List Relation → ℕ
 integerOf whole e c = search (queryI whole) c (lowest e) (10 ^ maxDigits)
 
--- the rank, within the exponent e, of the least number whose f is 0, or is not: v and f are the least there are; `block` where there is none
-unfoldable pub kindRank : Bool → ℕ → ℕ → ℕ → List Relation → ℕ
-kindRank whole e v f c =
-    elim (leb v maxPlaces) [
+-- the rank, within the exponent e, of v and f as one number q with i; `block` where one of them is not found
+abbrev pub placed : ℕ → ℕ → ℕ
+placed q i = (q / 10 ^ maxPlaces * 10 ^ maxDigits + i) * 10 ^ maxPlaces + q % 10 ^ maxPlaces
+
+unfoldable pub kindRank : Bool → ℕ → List Relation → ℕ
+kindRank whole e c =
+    let q = fractionCode whole c in
+    elim (ltb q fractions) [
       | true ↦
           let i = integerOf whole e c in
-          if ltb i (10 ^ maxDigits) then (v * 10 ^ maxDigits + i) * 10 ^ maxPlaces + f else block
+          if ltb i (10 ^ maxDigits) then placed q i else block
       | false ↦ block
     ]
 
-unfoldable pub exponentRank : ℕ → ℕ → ℕ → ℕ → ℕ → List Relation → ℕ
-exponentRank e v₀ f₀ v₁ f₁ c = elim (all (settledE e) c) [ true ↦ min (kindRank true e v₀ f₀ c) (kindRank false e v₁ f₁ c) | false ↦ block ]
-
--- the first of the n exponents from e on at which there is a number
-unfoldable pub exponentsRank : ℕ → ℕ → ℕ → ℕ → List Relation → ℕ → ℕ → ℕ
-exponentsRank v₀ f₀ v₁ f₁ c zero e = e * block
-exponentsRank v₀ f₀ v₁ f₁ c (suc n) e =
-    let k = exponentRank e v₀ f₀ v₁ f₁ c in
-    elim (ltb k block) [ true ↦ e * block + k | false ↦ exponentsRank v₀ f₀ v₁ f₁ c n (suc e) ]
-
+-- Where there is no i at the least e, there is none at a later one.
 unfoldable pub clauseRank : List Relation → ℕ
 clauseRank c =
-    let v₀ = placesOf true c in
-    let v₁ = placesOf false c in
-    exponentsRank v₀ (fractionOf true v₀ c) v₁ (fractionOf false v₁ c) c (suc maxExponent) 0
+    let e = exponentOf c in
+    elim (leb e maxExponent) [
+      | true ↦
+          let k = min (kindRank true e c) (kindRank false e c) in
+          if ltb k block then e * block + k else ranks
+      | false ↦ ranks
+    ]
 
 -- ---- a condition, and the check
 
