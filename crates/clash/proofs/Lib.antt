@@ -7,4 +7,5 @@ pub mod FastIs
 pub mod Ranks
 pub mod Joined
 pub mod Claimed
+pub mod Stepping
 pub mod Rows

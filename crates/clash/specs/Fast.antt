@@ -12,6 +12,7 @@ use Rattle.least.specs.Seek.{seek}
 use Rattle.least.specs.Leap.{far, into, outOf, upwards, windowEnd, window}
 use Rattle.clash.specs.Check.{lowest, block, ranks, firstPair}
 use Rattle.clash.specs.declared.Checked.{Checked}
+pub use Rattle.clash.specs.declared.Query.{Query}
 
 -- ---- a relation at a whole value of its operand, and its leaps
 
@@ -30,15 +31,6 @@ unfoldable pub leapTest : Relation → ℕ → ℕ
 leapTest r x = if r .negated then outOfAll (r .modulus) (r .ranges) x else intoAny (r .modulus) (r .ranges) x
 
 -- ---- the search for one number
-
--- A search for a number x: n, i, f and t are each x times this factor, or no part of the search, where the factor is 0. Where `odd` is true, x must
--- not end in the digit 0.
-pub record Query : Type 0 where
-  pub n : ℕ
-  pub i : ℕ
-  pub f : ℕ
-  pub t : ℕ
-  pub odd : Bool
 
 unfoldable pub factor : Query → ℕ → ℕ
 factor q o =

@@ -1,3 +1,4 @@
 pub mod Check
 pub mod Fast
 pub mod Claims
+pub mod Read

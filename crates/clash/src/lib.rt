@@ -2,10 +2,24 @@
 //
 // specs/Check.antt is the definition, a search over all admitted numbers in document 01's order;
 // specs/Fast.antt is the search that is run, by leaps; proofs/FastIs.antt shows that they agree.
+// Below the entry the pack's arrays are lent one by one; specs/Read.antt says what stretches of them
+// hold.
+mod leap;
+
 use answer::Pair;
 use answer::Witness;
 
 pub enum Checked {
     Passes,
     Clashes(Pair, Witness),
+}
+
+// A search for a number x: n, i, f and t are each x times their factor, or no part of the search where
+// it is 0. Where `odd` is true, x must not end in the digit 0.
+pub struct Query {
+    pub n: u64,
+    pub i: u64,
+    pub f: u64,
+    pub t: u64,
+    pub odd: bool,
 }
