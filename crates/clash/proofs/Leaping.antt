@@ -49,7 +49,7 @@ test-leap r x = signed (r .negated)
 asked-pos : (s : ℕ) → not (eqb s 0) ≡ true → 0 < s
 asked-pos s e = let n = eqb-false s 0 (not-true _ e) in ⊎-elim (λ h. absurd (n (omega arith))) (λ h. h) (split s 1)
 
-one-leap : (q : Query) (r : Relation) (x : ℕ) → Leap (passes q r) x (leapOne q r x)
+pub one-leap : (q : Query) (r : Relation) (x : ℕ) → Leap (passes q r) x (leapOne q r x)
 unfolding passes leapOne
 one-leap q r x = go (factor q (r .operand)) (not (eqb (factor q (r .operand)) 0)) refl
   where
@@ -57,7 +57,7 @@ one-leap q r x = go (factor q (r .operand)) (not (eqb (factor q (r .operand)) 0)
     go s true e = upwards-leap s x (asked-pos s e) (test-leap r (x * s))
     go s false e = leap-here x refl
 
-end-leap : (q : Query) (x : ℕ) → Leap (ends q) x (leapEnd q x)
+pub end-leap : (q : Query) (x : ℕ) → Leap (ends q) x (leapEnd q x)
 unfolding ends leapEnd
 end-leap q x = go (q .odd)
   where

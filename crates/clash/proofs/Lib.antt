@@ -8,4 +8,5 @@ pub mod Ranks
 pub mod Joined
 pub mod Claimed
 pub mod Stepping
+pub mod Hopping
 pub mod Rows

@@ -2,3 +2,4 @@ pub mod Check
 pub mod Fast
 pub mod Claims
 pub mod Read
+pub mod Hop

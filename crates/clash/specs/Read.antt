@@ -6,6 +6,7 @@ use lib.Dec.{eqb}
 use lib.ListN.{getD}
 use Rattle.decimal.specs.Choice.{if_then_else_}
 use Rattle.rules.specs.Syntax.{Range, Relation}
+use Rattle.clash.specs.declared.Span.{Span}
 
 -- no number that is searched for is above this
 abbrev pub cap : ℕ
@@ -49,3 +50,7 @@ relationAt T j =
 
 abbrev pub relationsIn : Table → ℕ → ℕ → List Relation
 relationsIn T from to = run (relationAt T) from (to - from)
+
+-- the clause that two stretches make
+abbrev pub joinedIn : Table → Span → List Relation
+joinedIn T s = relationsIn T (s .from) (s .to) ++ relationsIn T (s .start) (s .stop)

@@ -77,7 +77,7 @@ fn out_of_range(m: u32, a: u32, b: u32, x: u64) -> u64
 }
 
 // From x on into one of the ranges from place `from` to before `to`.
-fn into_any<'a>(
+pub fn into_any<'a>(
     low: &'a [u32; 2048],
     high: &'a [u32; 2048],
     from: usize,
@@ -99,7 +99,7 @@ fn into_any<'a>(
 }
 
 // From x on out of all of them.
-fn out_of_all<'a>(
+pub fn out_of_all<'a>(
     low: &'a [u32; 2048],
     high: &'a [u32; 2048],
     from: usize,

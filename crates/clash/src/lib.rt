@@ -5,6 +5,7 @@
 // Below the entry the pack's arrays are lent one by one; specs/Read.antt says what stretches of them
 // hold.
 mod leap;
+mod relation;
 
 use answer::Pair;
 use answer::Witness;
@@ -22,4 +23,13 @@ pub struct Query {
     pub f: u64,
     pub t: u64,
     pub odd: bool,
+}
+
+// Two stretches of a pack's relations, which together are one clause: those at `from` to before `to`,
+// and those at `start` to before `stop`.
+pub struct Span {
+    pub from: usize,
+    pub to: usize,
+    pub start: usize,
+    pub stop: usize,
 }
