@@ -16,7 +16,7 @@ use Rattle.least.specs.Seek.{Least, Leap}
 use Rattle.least.specs.Leap.{between, far, into, outOf, upwards, windowEnd, window}
 use Rattle.least.proofs.Seeking.{split, and-false-right, and-true, or-false, leap-and, leap-or}
 use Rattle.least.proofs.Ranges.{leap-same, leap-here, leap-never, into-leap, out-leap, upwards-leap}
-use Rattle.least.proofs.Windows.{end-enough, window-least}
+use Rattle.least.proofs.Windows.{Enough, end-enough, window-least}
 use Rattle.clash.specs.Fast.{test, intoAny, outOfAll, leapTest, Query, factor, asked, passes, ends, passesAll, leapOne, leapEnd, leapEach, leapAll, top, reach, leastPeriod, largest, period, divides, repeats, searchEnd, search}
 
 -- ---- leaps
@@ -184,8 +184,11 @@ period-pos q c = go (q .odd)
 
 -- ---- the search
 
+-- the window is enough
+pub search-enough : (q : Query) (c : List Relation) (lo hi : ℕ) → lo ≤ hi → Enough (passesAll q c) lo (searchEnd q c lo hi) hi
+search-enough q c lo hi h =
+    end-enough (passesAll q c) (repeats q c (period q c)) (reach q c) (period q c) lo hi h (period-pos q c) (repeats-same q c (period q c))
+
 pub search-least : (q : Query) (c : List Relation) (lo hi : ℕ) → lo ≤ hi → Least (passesAll q c) lo hi (search q c lo hi)
 unfolding search
-search-least q c lo hi h =
-    window-least (passesAll q c) (leapAll q c) (all-leap q c) (searchEnd q c lo hi) lo hi
-    (end-enough (passesAll q c) (repeats q c (period q c)) (reach q c) (period q c) lo hi h (period-pos q c) (repeats-same q c (period q c)))
+search-least q c lo hi h = window-least (passesAll q c) (leapAll q c) (all-leap q c) (searchEnd q c lo hi) lo hi (search-enough q c lo hi h)

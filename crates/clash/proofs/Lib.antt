@@ -9,4 +9,6 @@ pub mod Joined
 pub mod Claimed
 pub mod Stepping
 pub mod Hopping
+pub mod Windowing
+pub mod Searching
 pub mod Rows

@@ -6,6 +6,7 @@ use lib.Dec.{eqb}
 use lib.ListN.{getD}
 use Rattle.decimal.specs.Choice.{if_then_else_}
 use Rattle.rules.specs.Syntax.{Range, Relation}
+use Rattle.clash.specs.Fast.{top}
 use Rattle.clash.specs.declared.Span.{Span}
 
 -- no number that is searched for is above this
@@ -22,6 +23,10 @@ rangeAt low high k = record { low = getD low k 0; high = getD high k 0 }
 
 abbrev pub rangesIn : List ℕ → List ℕ → ℕ → ℕ → List Range
 rangesIn low high from to = run (rangeAt low high) from (to - from)
+
+-- past the upper ends of the ranges of a stretch
+abbrev pub topIn : List ℕ → ℕ → ℕ → ℕ
+topIn high from to = top (rangesIn high high from to)
 
 -- the arrays
 pub record Table : Type 0 where

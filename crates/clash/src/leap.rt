@@ -12,7 +12,7 @@ pub const FAR: u64 = 4_000_000_000_000_000_000;
 
 const MAX_RANGES: usize = 2048;
 
-fn wide(x: u32) -> u64
+pub fn wide(x: u32) -> u64
     ensures { λ r. ⌜ r ≡ x ⌝ }
 {
     x as u64

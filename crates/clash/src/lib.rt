@@ -6,6 +6,8 @@
 // hold.
 mod leap;
 mod relation;
+mod search;
+mod window;
 
 use answer::Pair;
 use answer::Witness;
@@ -32,4 +34,11 @@ pub struct Span {
     pub to: usize,
     pub start: usize,
     pub stop: usize,
+}
+
+// Of the relations that a search asks: past the values that are compared without a modulus, and the
+// largest modulus.
+pub struct Bounds {
+    pub reach: u64,
+    pub period: u64,
 }

@@ -16,7 +16,7 @@ use crate::leap;
 const MAX_RANGES: usize = 2048;
 
 // Where the part j begins.
-fn start_at(ends: &[usize; 320], j: usize) -> usize
+pub fn start_at(ends: &[usize; 320], j: usize) -> usize
     requires { ⌜ j < 320 ⌝ }
     ensures { λ r. ⌜ r ≡ startAt (now (ends .entry)) j ⌝ }
 {
@@ -27,7 +27,7 @@ fn start_at(ends: &[usize; 320], j: usize) -> usize
 }
 
 // Where it ends, within the room for ranges.
-fn stop_at(ends: &[usize; 320], j: usize) -> usize
+pub fn stop_at(ends: &[usize; 320], j: usize) -> usize
     requires { ⌜ j < 320 ⌝ }
     ensures { λ r. ⌜ r ≡ min (getD (now (ends .entry)) j 0) 2048 ⌝ }
 {
