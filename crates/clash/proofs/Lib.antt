@@ -12,3 +12,4 @@ pub mod Hopping
 pub mod Windowing
 pub mod Searching
 pub mod Rows
+pub mod Settling

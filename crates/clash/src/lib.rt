@@ -7,6 +7,7 @@
 mod leap;
 mod relation;
 mod search;
+mod settle;
 mod window;
 
 use answer::Pair;
