@@ -33,7 +33,7 @@ use Rattle.clash.proofs.Digits.{vAt, iAt, fAt, codeAt, f-lt, code-lt, i
 unfoldable integer : ℕ → List Relation → ℕ → Bool → Bool
 integer e c i whole = both (leb (lowest e) i) (passesAll (queryI whole) c i)
 
-lowest-le : (e : ℕ) → e ≤ maxExponent → lowest e ≤ 10 ^ maxDigits
+pub lowest-le : (e : ℕ) → e ≤ maxExponent → lowest e ≤ 10 ^ maxDigits
 lowest-le e h = tested (eqb e 0) (λ z. rw z (omega arith)) (λ z. rw z (power-mono {j = maxDigits} (omega arith)))
 
 from-low : (P : ℕ → Bool) (lo hi r : ℕ) → Least P lo hi r → Least (λ i. both (leb lo i) (P i)) 0 hi r

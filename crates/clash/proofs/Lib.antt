@@ -13,3 +13,5 @@ pub mod Windowing
 pub mod Searching
 pub mod Rows
 pub mod Settling
+pub mod Placing
+pub mod Spotting

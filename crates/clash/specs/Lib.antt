@@ -3,3 +3,4 @@ pub mod Fast
 pub mod Claims
 pub mod Read
 pub mod Hop
+pub mod Spots

@@ -4,6 +4,8 @@
 // specs/Fast.antt is the search that is run, by leaps; proofs/FastIs.antt shows that they agree.
 // Below the entry the pack's arrays are lent one by one; specs/Read.antt says what stretches of them
 // hold.
+mod clause;
+mod fraction;
 mod leap;
 mod relation;
 mod search;
@@ -42,4 +44,12 @@ pub struct Span {
 pub struct Bounds {
     pub reach: u64,
     pub period: u64,
+}
+
+// The operands of a number that the search found; e is past the largest where it found none.
+pub struct Spot {
+    pub e: u64,
+    pub v: u64,
+    pub i: u64,
+    pub f: u64,
 }
