@@ -5,7 +5,7 @@ pub mod Fractions
 pub mod Digits
 pub mod FastIs
 pub mod Ranks
-pub mod Joined
+pub mod Joining
 pub mod Claimed
 pub mod Stepping
 pub mod Hopping
@@ -15,3 +15,4 @@ pub mod Rows
 pub mod Settling
 pub mod Placing
 pub mod Spotting
+pub mod Pairing

@@ -13,7 +13,7 @@ use Rattle.clash.specs.Check.{against, firstPair, checkOf}
 use Rattle.clash.specs.Fast.{test, intoAny, outOfAll, leapTest, factor, leapOne, leapEnd, leapEach, top, reach, largest, repeats, passes, search, ofExponent, settledE, settledF, exponentOf, wholeCode, tailOf, tailPlaces, tailCode, partCode, fractionCode, integerOf, kindRank, clauseRank, fastRank, withEach, bothOf, fastCheck}
 use Rattle.clash.specs.declared.Checked.{Checked}
 use Rattle.clash.specs.declared.Checked.the-variants.{Passes, Clashes}
-use Rattle.clash.proofs.Joined.{check-fast}
+use Rattle.clash.proofs.Joining.{check-fast}
 
 -- a relation of one range
 abbrev pub relation : ℕ → ℕ → Bool → ℕ → ℕ → Relation

@@ -5,7 +5,7 @@ use mathlib.Core.List.{List}
 use mathlib.Core.Logic.{_⊎_, ⊎-elim}
 use Prim.Native.Nat.{ℕ, zero, suc, _+_, _-_, _*_, _/_, _%_, _^_, _≤_, _<_, min}
 use native.Mathlib.Omega.{arith}
-use native.Mathlib.Nat.{mul-le-mul-right, div-lt-iff-lt-mul, mod-lt}
+use native.Mathlib.Nat.{le-of-lt, mul-le-mul-right, div-lt-iff-lt-mul, mod-lt}
 use lib.Arith.{digits-lt}
 use lib.Dec.{eqb, ltb, leb}
 use borrow.Author.Tests.{lt-ltb, le-ltb, le-leb, lt-leb, eq-eqb, ne-eqb, ltb-true, ltb-false}
@@ -147,8 +147,21 @@ module _ (w : Bool) (e : ℕ) (c : List Relation) where
       rw (k, lt-ltb (placed q i) block m)
 
 pub kind-proper : (e q i : ℕ) → e ≤ maxExponent → q < fractions → i < 10 ^ maxDigits → Proper (record { e = e; v = q / 10 ^ maxPlaces; i = i; f = q % 10 ^ maxPlaces })
+unfolding spotRank
 kind-proper e q i h g l =
-    record { exponent = omega arith; places = div-lt-iff-lt-mul (power-pos maxPlaces) .1 g; whole = l; fraction = mod-lt q (power-pos maxPlaces) }
+    let t : q / 10 ^ maxPlaces < suc maxPlaces = div-lt-iff-lt-mul (power-pos maxPlaces) .1 g in
+    let f : q % 10 ^ maxPlaces < 10 ^ maxPlaces = mod-lt q (power-pos maxPlaces) in
+    record {
+      exponent = omega arith;
+      places = t;
+      whole = l;
+      fraction = f;
+      ranked = le-of-lt (ahead block e (suc maxExponent) (placed q i) 0 (let k : e < suc maxExponent = omega arith in k) (digits-lt (digits-lt t l) f));
+    }
+
+pub nowhere-proper : Proper (record { e = suc maxExponent; v = 0; i = 0; f = 0 })
+unfolding spotRank
+nowhere-proper = record { exponent = omega arith; places = omega arith; whole = omega arith; fraction = omega arith; ranked = omega arith }
 
 -- ---- a clause
 

@@ -59,3 +59,14 @@ relationsIn T from to = run (relationAt T) from (to - from)
 -- the clause that two stretches make
 abbrev pub joinedIn : Table → Span → List Relation
 joinedIn T s = relationsIn T (s .from) (s .to) ++ relationsIn T (s .start) (s .stop)
+
+-- the clauses, by the places where their relations end
+abbrev pub clauseAt : Table → List ℕ → ℕ → List Relation
+clauseAt T relations k = relationsIn T (startAt relations k) (min (getD relations k 0) 320)
+
+abbrev pub clausesIn : Table → List ℕ → ℕ → ℕ → List (List Relation)
+clausesIn T relations from to = run (clauseAt T relations) from (to - from)
+
+-- the clauses of a rule, by the places where they end
+abbrev pub ruleClauses : Table → List ℕ → List ℕ → ℕ → List (List Relation)
+ruleClauses T relations clauses p = clausesIn T relations (startAt clauses p) (min (getD clauses p 0) 40)

@@ -8,6 +8,7 @@ mod clause;
 mod fraction;
 mod leap;
 mod relation;
+mod joined;
 mod search;
 mod settle;
 mod window;
