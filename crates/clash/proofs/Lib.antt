@@ -16,3 +16,5 @@ pub mod Settling
 pub mod Placing
 pub mod Spotting
 pub mod Pairing
+pub mod Answering
+pub mod Holding

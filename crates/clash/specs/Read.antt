@@ -5,7 +5,8 @@ use Prim.Native.Nat.{ℕ, zero, suc, _-_, _^_, min}
 use lib.Dec.{eqb}
 use lib.ListN.{getD}
 use Rattle.decimal.specs.Choice.{if_then_else_}
-use Rattle.rules.specs.Syntax.{Range, Relation}
+use Rattle.answer.specs.declared.Keyword.the-variants.{Other}
+use Rattle.rules.specs.Syntax.{Range, Relation, Rule}
 use Rattle.clash.specs.Fast.{top}
 use Rattle.clash.specs.declared.Span.{Span}
 
@@ -70,3 +71,7 @@ clausesIn T relations from to = run (clauseAt T relations) from (to - from)
 -- the clauses of a rule, by the places where they end
 abbrev pub ruleClauses : Table → List ℕ → List ℕ → ℕ → List (List Relation)
 ruleClauses T relations clauses p = clausesIn T relations (startAt clauses p) (min (getD clauses p 0) 40)
+
+-- a rule without its keyword, which no search asks
+abbrev pub bareRule : Table → List ℕ → List ℕ → ℕ → Rule
+bareRule T relations clauses p = record { keyword = Other; clauses = ruleClauses T relations clauses p }

@@ -5,6 +5,7 @@
 // Below the entry the pack's arrays are lent one by one; specs/Read.antt says what stretches of them
 // hold.
 mod clause;
+mod first;
 mod fraction;
 mod leap;
 mod relation;
@@ -13,8 +14,13 @@ mod search;
 mod settle;
 mod window;
 
+ghost use mathlib.Core.Path.{_≡_};
+ghost use Prim.Native.Nat.{min};
+ghost use Rattle.rules.specs.Held.{heldRules};
+ghost use Rattle.clash.specs.Check.{checkOf};
 use answer::Pair;
 use answer::Witness;
+use rules::Pack;
 
 pub enum Checked {
     Passes,
@@ -53,4 +59,26 @@ pub struct Spot {
     pub v: u64,
     pub i: u64,
     pub f: u64,
+}
+
+// The first rule behind a rule that clashes with it, and the number; `at` is past the rules where none
+// does.
+pub struct Clash {
+    pub at: usize,
+    pub spot: Spot,
+}
+
+// There is room for six rules.
+fn rule_count(count: usize) -> usize
+    ensures { λ r. ⌜ r ≡ min count 6 ⌝ }
+{
+    if count < 6 { count } else { 6 }
+}
+
+// The check of a parsed pack.
+pub fn check(p: Pack) -> Checked
+    ensures { λ r. ⌜ r ≡ checkOf (heldRules p) ⌝ }
+{
+    let n = rule_count(p.count);
+    first::first_pair(&p.operand, &p.modulus, &p.negated, &p.ranges, &p.low, &p.high, &p.relations, &p.clauses, n)
 }
