@@ -83,13 +83,13 @@ module _ (T : Table) (R C : List ℕ) (p n : ℕ) where
   behind-more q s h e g rest =
       step q rest h
       ∙ ap (λ (b : Bool). if b then Clashes (record { first = p + 1; second = q + 1 }) (ranked (fastRank (bothOf (ruleClauses T R C p) (ruleClauses T R C q)))) else From (q + 1) rest)
-        (le-ltb (fastRank (bothOf (ruleClauses T R C p) (ruleClauses T R C q))) ranks (subst (λ (x : ℕ). ranks ≤ x) e (none-ge s g)))
+      (le-ltb (fastRank (bothOf (ruleClauses T R C p) (ruleClauses T R C q))) ranks (subst (λ (x : ℕ). ranks ≤ x) e (none-ge s g)))
 
   pub behind-found : (q : ℕ) (s : Spot) → q < n → spotRank s ≡ fastRank (bothOf (ruleClauses T R C p) (ruleClauses T R C q)) → Proper s → s .e ≤ maxExponent → (rest : Checked) → From q rest ≡ answered p n q s rest
   behind-found q s h e pr g rest =
       step q rest h
       ∙ ap (λ (b : Bool). if b then Clashes (record { first = p + 1; second = q + 1 }) (ranked (fastRank (bothOf (ruleClauses T R C p) (ruleClauses T R C q)))) else From (q + 1) rest)
-        (lt-ltb (fastRank (bothOf (ruleClauses T R C p) (ruleClauses T R C q))) ranks (subst (λ (x : ℕ). x < ranks) e (found-lt s pr g)))
+      (lt-ltb (fastRank (bothOf (ruleClauses T R C p) (ruleClauses T R C q))) ranks (subst (λ (x : ℕ). x < ranks) e (found-lt s pr g)))
       ∙ ap (λ (x : Witness). Clashes (record { first = p + 1; second = q + 1 }) x) (ap ranked (sym e) ∙ ranked-is s pr)
       ∙ sym (ap (λ (b : Bool). if b then Clashes (record { first = p + 1; second = q + 1 }) (witnessOf s) else rest) (lt-ltb q n h))
 

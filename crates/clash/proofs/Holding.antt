@@ -150,7 +150,7 @@ module _ (p : Pack) (f : Full p) where
       ∙ relations-run (p .operand) (p .modulus) (p .negated) L (f .modulus ∙ sym (f .operand)) (f .negated ∙ sym (f .operand)) (length-run _ 0 320 ∙ sym (f .operand))
       ∙ ap (run (made (p .operand) (p .modulus) (p .negated) L) 0) (f .operand)
       ∙ run-same _ _ 0 320 (λ j h. ap (λ (r : List Range). record { operand = getD (p .operand) j 0; modulus = getD (p .modulus) j 0; negated = getD (p .negated) j false; ranges = r })
-        (getD-run (λ j. rangesIn (p .low) (p .high) (startAt (p .ranges) j) (min (getD (p .ranges) j 0) 2048)) 0 320 j [] (omega arith) ∙ ap (λ (x : ℕ). rangesIn (p .low) (p .high) (startAt (p .ranges) x) (min (getD (p .ranges) x 0) 2048)) (zero-add j)))
+      (getD-run (λ j. rangesIn (p .low) (p .high) (startAt (p .ranges) j) (min (getD (p .ranges) j 0) 2048)) 0 320 j [] (omega arith) ∙ ap (λ (x : ℕ). rangesIn (p .low) (p .high) (startAt (p .ranges) x) (min (getD (p .ranges) x 0) 2048)) (zero-add j)))
     where
       L : List (List Range)
       L = run (λ j. rangesIn (p .low) (p .high) (startAt (p .ranges) j) (min (getD (p .ranges) j 0) 2048)) 0 320
@@ -173,7 +173,7 @@ module _ (p : Pack) (f : Full p) where
       ∙ rules-run (take (p .count) (p .keyword)) B (omega (arith, keywords, length-run (ruleClauses (tableOf p) (p .relations) (p .clauses)) 0 6))
       ∙ ap (run (ruled (take (p .count) (p .keyword)) B) 0) keywords
       ∙ run-same _ _ 0 (min (p .count) 6) (λ j h. ap (λ (c : List (List Relation)). record { keyword = keywordOf (getD (take (p .count) (p .keyword)) j 0); clauses = c })
-        (getD-run (ruleClauses (tableOf p) (p .relations) (p .clauses)) 0 6 j [] (omega arith) ∙ ap (ruleClauses (tableOf p) (p .relations) (p .clauses)) (zero-add j)))
+      (getD-run (ruleClauses (tableOf p) (p .relations) (p .clauses)) 0 6 j [] (omega arith) ∙ ap (ruleClauses (tableOf p) (p .relations) (p .clauses)) (zero-add j)))
     where
       B : List (List (List Relation))
       B = run (ruleClauses (tableOf p) (p .relations) (p .clauses)) 0 6

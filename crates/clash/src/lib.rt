@@ -7,9 +7,9 @@
 mod clause;
 mod first;
 mod fraction;
+mod joined;
 mod leap;
 mod relation;
-mod joined;
 mod search;
 mod settle;
 mod window;
@@ -80,5 +80,15 @@ pub fn check(p: Pack) -> Checked
     ensures { λ r. ⌜ r ≡ checkOf (heldRules p) ⌝ }
 {
     let n = rule_count(p.count);
-    first::first_pair(&p.operand, &p.modulus, &p.negated, &p.ranges, &p.low, &p.high, &p.relations, &p.clauses, n)
+    first::first_pair(
+        &p.operand,
+        &p.modulus,
+        &p.negated,
+        &p.ranges,
+        &p.low,
+        &p.high,
+        &p.relations,
+        &p.clauses,
+        n,
+    )
 }

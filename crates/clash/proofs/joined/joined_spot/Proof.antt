@@ -24,9 +24,11 @@ clause-spot-requires c κs = (omega (arith, c .before .before .relations-stop .e
 returns : tie.Need-returns
 returns c =
     let a = c .before .before .before .before .before .args in
-    let T = table (a .operand .now) (a .modulus .now) (a .negated .now) (a .ranges .now) (a .low .now) (a .high .now) in
-    (joined-is T (a .relations .now) _ (c .before .before .before .before .relations-start .result) (c .before .before .before .relations-stop .result) (c .before .before .relations-start2 .result) (c .before .relations-stop2 .result) (a .k) (a .l)
-    (c .before .before .before .before .relations-start .ensures) (c .before .before .before .relations-stop .ensures) (c .before .before .relations-start2 .ensures) (c .before .relations-stop2 .ensures) (c .clause-spot .ensures .0), c .clause-spot .ensures .1)
+    let T = table (a .operand .now) (a .modulus .now) (a .negated .now) (a .ranges .now) (a .low .now) (a .high .now) in (
+      joined-is T (a .relations .now) _ (c .before .before .before .before .relations-start .result) (c .before .before .before .relations-stop .result) (c .before .before .relations-start2 .result) (c .before .relations-stop2 .result) (a .k) (a .l)
+          (c .before .before .before .before .relations-start .ensures) (c .before .before .before .relations-stop .ensures) (c .before .before .relations-start2 .ensures) (c .before .relations-stop2 .ensures) (c .clause-spot .ensures .0),
+      c .clause-spot .ensures .1,
+    )
 
 pub joined-spot-spec : {M : Type 1} → statement M
 joined-spot-spec =
