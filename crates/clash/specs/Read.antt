@@ -5,14 +5,11 @@ use Prim.Native.Nat.{ℕ, zero, suc, _-_, _^_, min}
 use lib.Dec.{eqb}
 use lib.ListN.{getD}
 use Rattle.decimal.specs.Choice.{if_then_else_}
+pub use Rattle.decimal.specs.Digits.{cap}
 use Rattle.answer.specs.declared.Keyword.the-variants.{Other}
 use Rattle.rules.specs.Syntax.{Range, Relation, Rule}
 use Rattle.clash.specs.Fast.{top}
 use Rattle.clash.specs.declared.Span.{Span}
-
--- no number that is searched for is above this
-abbrev pub cap : ℕ
-cap = 10 ^ 18
 
 -- the elements g from, g (from + 1), .. to before `to`
 unfoldable pub run : {A : Type 0} → (ℕ → A) → ℕ → ℕ → List A

@@ -10,26 +10,19 @@ ghost use Rattle.clash.specs.Check.{lowest, block, ranks};
 ghost use Rattle.clash.specs.Fast.{integerOf, kindRank, clauseRank};
 ghost use Rattle.clash.specs.Read.{table, joinedIn};
 ghost use Rattle.clash.specs.Spots.{spotRank, Proper};
+use crate::fraction;
+use crate::limits;
+use crate::search;
 use crate::Query;
 use crate::Span;
 use crate::Spot;
-use crate::fraction;
-use crate::search;
-
-const MAX_EXPONENT: u64 = 14;
-
-const INTEGER_LIMIT: u64 = 1_000_000_000_000_000;
-
-const FRACTION_LIMIT: u64 = 1_000_000_000;
-
-const FRACTIONS: u64 = 10_000_000_000;
 
 // No number: its rank is past all ranks.
 pub fn nowhere() -> Spot
     ensures { λ r. ⌜ (spotRank r ≡ ranks) × Proper r ⌝ }
 {
     Spot {
-        e: 15,
+        e: limits::NO_EXPONENT,
         v: 0,
         i: 0,
         f: 0,
@@ -115,7 +108,7 @@ fn integer_of<'a>(
         s,
         q,
         lo,
-        INTEGER_LIMIT,
+        limits::INTEGER_LIMIT,
     )
 }
 
@@ -135,18 +128,18 @@ fn kind_spot<'a>(
     ensures { λ r. ⌜ (spotRank r ≡ (if ltb (kindRank whole e (joinedIn (table (now (operand .entry)) (now (modulus .entry)) (now (negated .entry)) (now (ranges .entry)) (now (low .entry)) (now (high .entry))) s)) block then e * block + kindRank whole e (joinedIn (table (now (operand .entry)) (now (modulus .entry)) (now (negated .entry)) (now (ranges .entry)) (now (low .entry)) (now (high .entry))) s) else ranks)) × Proper r ⌝ }
 {
     let q = fraction::fraction_code(operand, modulus, negated, ranges, low, high, s, whole);
-    if FRACTIONS <= q {
+    if limits::FRACTIONS <= q {
         return nowhere();
     }
     let i = integer_of(operand, modulus, negated, ranges, low, high, s, whole, e);
-    if INTEGER_LIMIT <= i {
+    if limits::INTEGER_LIMIT <= i {
         return nowhere();
     }
     Spot {
         e: e,
-        v: q / FRACTION_LIMIT,
+        v: q / limits::FRACTION_LIMIT,
         i: i,
-        f: q % FRACTION_LIMIT,
+        f: q % limits::FRACTION_LIMIT,
     }
 }
 
@@ -164,7 +157,7 @@ pub fn clause_spot<'a>(
     ensures { λ r. ⌜ (spotRank r ≡ clauseRank (joinedIn (table (now (operand .entry)) (now (modulus .entry)) (now (negated .entry)) (now (ranges .entry)) (now (low .entry)) (now (high .entry))) s)) × Proper r ⌝ }
 {
     let e = fraction::exponent_of(operand, modulus, negated, ranges, low, high, s);
-    if MAX_EXPONENT < e {
+    if limits::MAX_EXPONENT < e {
         return nowhere();
     }
     let a = kind_spot(operand, modulus, negated, ranges, low, high, s, true, e);

@@ -8,17 +8,16 @@ ghost use Rattle.clash.specs.Check.{against, firstPair};
 ghost use Rattle.clash.specs.Fast.{fastClash};
 ghost use Rattle.clash.specs.Read.{run, table, bareRule};
 ghost use Rattle.clash.specs.Spots.{Proper, witnessOf, answered};
+use crate::clause;
+use crate::joined;
+use crate::limits;
 use crate::Checked;
 use crate::Clash;
 use crate::Spot;
-use crate::clause;
-use crate::joined;
 use answer::Pair;
 use answer::Witness;
 use decimal::DigitValue;
 use decimal::Places;
-
-const MAX_EXPONENT: u64 = 14;
 
 // The first of the rules behind the rule p, below n, that clashes with it; n where none does.
 pub fn later_clash<'a>(
@@ -50,7 +49,7 @@ pub fn later_clash<'a>(
             p,
             q,
         );
-        if spot.e <= MAX_EXPONENT {
+        if spot.e <= limits::MAX_EXPONENT {
             return Clash { at: q, spot: spot };
         }
         q += 1;

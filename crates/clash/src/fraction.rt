@@ -10,20 +10,12 @@ ghost use Rattle.plural.specs.Meaning.{all};
 ghost use Rattle.least.specs.Seek.{seek};
 ghost use Rattle.clash.specs.Fast.{settledF, exponentOf, wholeCode, tailOf, tailPlaces, tailCode, partCode, fractionCode};
 ghost use Rattle.clash.specs.Read.{table, joinedIn};
-use crate::Query;
-use crate::Span;
 use crate::leap;
+use crate::limits;
 use crate::search;
 use crate::settle;
-
-const MAX_EXPONENT: u64 = 14;
-
-const MAX_PLACES: u64 = 9;
-
-// 10^9, and how many numbers v * 10^9 + f there are
-const FRACTION_LIMIT: u64 = 1_000_000_000;
-
-const FRACTIONS: u64 = 10_000_000_000;
+use crate::Query;
+use crate::Span;
 
 // 10^k.
 pub fn power(k: u64) -> u64
@@ -53,7 +45,7 @@ pub fn exponent_of<'a>(
     ensures { λ r. ⌜ r ≡ exponentOf (joinedIn (table (now (operand .entry)) (now (modulus .entry)) (now (negated .entry)) (now (ranges .entry)) (now (low .entry)) (now (high .entry))) s) ⌝ }
 {
     let mut e: u64 = 0;
-    while e <= MAX_EXPONENT {
+    while e <= limits::MAX_EXPONENT {
         if settle::settled_e(operand, modulus, negated, ranges, low, high, s, e) {
             return e;
         }
@@ -76,7 +68,7 @@ fn whole_places<'a>(
     ensures { λ r. ⌜ (r ≡ seek (λ (v : ℕ). all (settledF v 0) (joinedIn (table (now (operand .entry)) (now (modulus .entry)) (now (negated .entry)) (now (ranges .entry)) (now (low .entry)) (now (high .entry))) s)) (suc maxPlaces) 0) × (r ≤ suc maxPlaces) ⌝ }
 {
     let mut v: u64 = 0;
-    while v <= MAX_PLACES {
+    while v <= limits::MAX_PLACES {
         if settle::settled_f(operand, modulus, negated, ranges, low, high, s, v, 0) {
             return v;
         }
@@ -99,10 +91,10 @@ fn whole_code<'a>(
     ensures { λ r. ⌜ r ≡ wholeCode (joinedIn (table (now (operand .entry)) (now (modulus .entry)) (now (negated .entry)) (now (ranges .entry)) (now (low .entry)) (now (high .entry))) s) ⌝ }
 {
     if !settle::zero_allowed(operand, modulus, negated, ranges, low, high, s) {
-        return FRACTIONS;
+        return limits::FRACTIONS;
     }
     let v = whole_places(operand, modulus, negated, ranges, low, high, s);
-    v * FRACTION_LIMIT
+    v * limits::FRACTION_LIMIT
 }
 
 // The least v that is settled where f ends in k zeros.
@@ -120,7 +112,7 @@ fn settled_places<'a>(
     ensures { λ r. ⌜ r ≡ seek (λ (v : ℕ). all (settledF v (v - k)) (joinedIn (table (now (operand .entry)) (now (modulus .entry)) (now (negated .entry)) (now (ranges .entry)) (now (low .entry)) (now (high .entry))) s)) (maxPlaces - k) (suc k) ⌝ }
 {
     let mut v: u64 = k + 1;
-    while v <= MAX_PLACES {
+    while v <= limits::MAX_PLACES {
         if settle::settled_f(operand, modulus, negated, ranges, low, high, s, v, v - k) {
             return v;
         }
@@ -167,7 +159,7 @@ fn tail_places<'a>(
     ensures { λ r. ⌜ (r ≡ tailPlaces k t (joinedIn (table (now (operand .entry)) (now (modulus .entry)) (now (negated .entry)) (now (ranges .entry)) (now (low .entry)) (now (high .entry))) s)) × (r ≤ suc maxPlaces) ⌝ }
 {
     let mut v: u64 = k + 1;
-    while v <= MAX_PLACES {
+    while v <= limits::MAX_PLACES {
         if room_for(operand, modulus, negated, ranges, low, high, s, k, t, v) {
             return v;
         }
@@ -191,7 +183,7 @@ fn tail_of<'a>(
     ensures { λ r. ⌜ r ≡ tailOf k (joinedIn (table (now (operand .entry)) (now (modulus .entry)) (now (negated .entry)) (now (ranges .entry)) (now (low .entry)) (now (high .entry))) s) ⌝ }
 {
     let ten = power(k);
-    let end = power(MAX_PLACES - k);
+    let end = power(limits::MAX_PLACES - k);
     let q = Query {
         n: 0,
         i: 0,
@@ -216,15 +208,15 @@ fn tail_code<'a>(
     requires { ⌜ (k < maxPlaces) × (s .to ≤ 320) × (s .stop ≤ 320) ⌝ }
     ensures { λ r. ⌜ r ≡ tailCode k (joinedIn (table (now (operand .entry)) (now (modulus .entry)) (now (negated .entry)) (now (ranges .entry)) (now (low .entry)) (now (high .entry))) s) ⌝ }
 {
-    if MAX_PLACES < settled_places(operand, modulus, negated, ranges, low, high, s, k) {
-        return FRACTIONS;
+    if limits::MAX_PLACES < settled_places(operand, modulus, negated, ranges, low, high, s, k) {
+        return limits::FRACTIONS;
     }
     let t = tail_of(operand, modulus, negated, ranges, low, high, s, k);
     let v = tail_places(operand, modulus, negated, ranges, low, high, s, k, t);
-    if MAX_PLACES < v {
-        return FRACTIONS;
+    if limits::MAX_PLACES < v {
+        return limits::FRACTIONS;
     }
-    v * FRACTION_LIMIT + t * power(k)
+    v * limits::FRACTION_LIMIT + t * power(k)
 }
 
 // The least v and f, where f is not 0. More zeros need more places than one that is found may have.
@@ -240,10 +232,10 @@ fn part_code<'a>(
     requires { ⌜ (s .to ≤ 320) × (s .stop ≤ 320) ⌝ }
     ensures { λ r. ⌜ r ≡ partCode maxPlaces (joinedIn (table (now (operand .entry)) (now (modulus .entry)) (now (negated .entry)) (now (ranges .entry)) (now (low .entry)) (now (high .entry))) s) ⌝ }
 {
-    let mut best = FRACTIONS;
+    let mut best = limits::FRACTIONS;
     let mut k: u64 = 0;
-    while k < MAX_PLACES {
-        if best <= (k + 1) * FRACTION_LIMIT {
+    while k < limits::MAX_PLACES {
+        if best <= (k + 1) * limits::FRACTION_LIMIT {
             return best;
         }
         best = leap::lesser(

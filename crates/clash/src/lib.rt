@@ -9,6 +9,7 @@ mod first;
 mod fraction;
 mod joined;
 mod leap;
+mod limits;
 mod relation;
 mod search;
 mod settle;
