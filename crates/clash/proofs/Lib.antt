@@ -18,3 +18,4 @@ pub mod Spotting
 pub mod Pairing
 pub mod Answering
 pub mod Holding
+pub mod Sieving

@@ -4,3 +4,4 @@ pub mod Claims
 pub mod Read
 pub mod Hop
 pub mod Spots
+pub mod Sieve

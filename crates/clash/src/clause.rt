@@ -10,12 +10,12 @@ ghost use Rattle.clash.specs.Check.{lowest, block, ranks};
 ghost use Rattle.clash.specs.Fast.{integerOf, kindRank, clauseRank};
 ghost use Rattle.clash.specs.Read.{table, joinedIn};
 ghost use Rattle.clash.specs.Spots.{spotRank, Proper};
-use crate::fraction;
-use crate::limits;
-use crate::search;
 use crate::Query;
 use crate::Span;
 use crate::Spot;
+use crate::fraction;
+use crate::limits;
+use crate::search;
 
 // No number: its rank is past all ranks.
 pub fn nowhere() -> Spot

@@ -10,12 +10,12 @@ ghost use Rattle.plural.specs.Meaning.{all};
 ghost use Rattle.least.specs.Seek.{seek};
 ghost use Rattle.clash.specs.Fast.{settledF, exponentOf, wholeCode, tailOf, tailPlaces, tailCode, partCode, fractionCode};
 ghost use Rattle.clash.specs.Read.{table, joinedIn};
+use crate::Query;
+use crate::Span;
 use crate::leap;
 use crate::limits;
 use crate::search;
 use crate::settle;
-use crate::Query;
-use crate::Span;
 
 // 10^k.
 pub fn power(k: u64) -> u64

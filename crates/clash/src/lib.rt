@@ -13,6 +13,7 @@ mod limits;
 mod relation;
 mod search;
 mod settle;
+mod sieve;
 mod window;
 
 ghost use mathlib.Core.Path.{_≡_};

@@ -8,6 +8,7 @@ ghost use Rattle.clash.specs.Hop.{Hop, Room};
 use crate::Query;
 use crate::Span;
 use crate::relation;
+use crate::sieve;
 use crate::window;
 
 // From x on to where the last digit is as the search asks.
@@ -85,6 +86,9 @@ pub fn least_number<'a>(
     requires { ⌜ (lo ≤ hi) × Room q hi × (s .to ≤ 320) × (s .stop ≤ 320) ⌝ }
     ensures { λ r. ⌜ r ≡ search q (joinedIn (table (now (operand .entry)) (now (modulus .entry)) (now (negated .entry)) (now (ranges .entry)) (now (low .entry)) (now (high .entry))) s) lo hi ⌝ }
 {
+    if sieve::blocked(operand, modulus, negated, ranges, low, high, s, q, hi) {
+        return hi;
+    }
     let end = window::window_end(operand, modulus, negated, ranges, low, high, s, q, lo, hi);
     let mut x = lo;
     while x < end {
