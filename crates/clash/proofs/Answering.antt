@@ -1,19 +1,17 @@
 -- What the code of the check works out: the pairs in turn.
-use mathlib.Core.Path.{_≡_, refl, sym, ap, ap₂, subst, _∙_}
-use mathlib.Core.Bool.{Bool, true, false}
-use mathlib.Core.List.{List, [], _∷_}
-use Prim.Native.Nat.{ℕ, zero, suc, _+_, _-_, _*_, _/_, _%_, _^_, _≤_, _<_, min}
+use mathlib.Core.Path.{_≡_, sym, ap, subst, _∙_}
+use mathlib.Core.Bool.{Bool}
+use mathlib.Core.List.{List}
+use Prim.Native.Nat.{ℕ, suc, _+_, _-_, _*_, _/_, _%_, _^_, _≤_, _<_}
 use native.Mathlib.Omega.{arith}
-use native.Mathlib.Nat.{mul-le-mul-right, le-trans, lt-of-lt-of-le}
+use native.Mathlib.Nat.{mul-le-mul-right}
 use native.Mathlib.Numerals.{add-one}
 use lib.Arith.{digits-lt, digits-div, digits-mod}
-use lib.Dec.{ltb}
 use borrow.Author.Tests.{lt-ltb, le-ltb}
 use Rattle.decimal.specs.Choice.{if_then_else_}
-use Rattle.decimal.proofs.Values.{power-pos}
 use Rattle.answer.specs.declared.Witness.{Witness}
 use Rattle.number.specs.Limits.{maxExponent, maxDigits, maxPlaces}
-use Rattle.rules.specs.Syntax.{Relation, Rule}
+use Rattle.rules.specs.Syntax.{Rule}
 use Rattle.clash.specs.Check.{block, ranks, ranked, named, against, firstPair}
 use Rattle.clash.specs.Fast.{fastRank, bothOf, fastClash}
 use Rattle.clash.specs.Read.{run, Table, ruleClauses, bareRule}

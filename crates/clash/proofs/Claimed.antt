@@ -1,5 +1,5 @@
 -- The check's answer is right: it passes exactly where no admitted number meets two rules, and else names the first pair and its least number.
-use mathlib.Core.Path.{_≡_, refl, sym, ap, ap₂, subst, _∙_}
+use mathlib.Core.Path.{_≡_, refl, sym, ap, subst, _∙_}
 use mathlib.Core.Bool.{Bool, true, false}
 use mathlib.Core.List.{List, [], _∷_}
 use mathlib.Core.Logic.{_⊎_, ⊎-elim, inl, inr}
@@ -7,18 +7,18 @@ use Prim.Native.Nat.{ℕ, zero, suc, _+_, _-_, _≤_, _<_}
 use native.Mathlib.Omega.{arith}
 use native.Mathlib.Nat.{suc-add, add-suc, add-zero, le-of-suc-le-suc}
 use lib.Dec.{ltb}
-use lib.ListN.{length, getD}
+use lib.ListN.{length}
 use borrow.Author.Tests.{ltb-true, ltb-false}
 use Rattle.decimal.specs.Choice.{if_then_else_, both}
-use Rattle.decimal.proofs.Choices.{tested, not-both}
+use Rattle.decimal.proofs.Choices.{not-both}
 use Rattle.answer.specs.declared.Witness.{Witness}
 use Rattle.number.specs.declared.Number.{Number}
 use Rattle.rules.specs.Syntax.{Rule}
 use Rattle.plural.specs.Meaning.{meets}
 use Rattle.least.specs.Seek.{Least}
 use Rattle.least.proofs.Seeking.{and-true, seek-least, split}
-use Rattle.clash.specs.Check.{numberAt, rank, ranked, admits, ranks, found, leastRank, clashOf, named, against, firstPair, checkOf}
-use Rattle.clash.specs.Claims.{IsAdmitted, MeetsBoth, Apart, Before, ruleAt, AllApart, Lowest, Claims}
+use Rattle.clash.specs.Check.{numberAt, rank, ranked, admits, ranks, found, leastRank, clashOf, against, firstPair, checkOf}
+use Rattle.clash.specs.Claims.{IsAdmitted, MeetsBoth, Apart, Before, ruleAt, AllApart, Claims}
 use Rattle.clash.specs.declared.Checked.{Checked}
 use Rattle.clash.specs.declared.Checked.the-variants.{Passes, Clashes}
 use Rattle.clash.proofs.Leaping.{both-held}

@@ -1,9 +1,9 @@
 -- The search that is run finds the rank that the definition's search over all admitted numbers does.
 use mathlib.Core.Path.{_≡_, refl, sym, ap, ap₂, subst, _∙_}
 use mathlib.Core.Bool.{Bool, true, false}
-use mathlib.Core.List.{List, [], _∷_, _++_}
+use mathlib.Core.List.{List, [], _∷_}
 use mathlib.Core.Logic.{_⊎_, ⊎-elim}
-use Prim.Native.Nat.{ℕ, zero, suc, _+_, _-_, _*_, _/_, _%_, _^_, _≤_, _<_, min}
+use Prim.Native.Nat.{ℕ, suc, _+_, _-_, _*_, _/_, _%_, _^_, _≤_, _<_, min}
 use native.Mathlib.Omega.{arith}
 use lib.Arith.{digits-div, digits-mod}
 use lib.Dec.{eqb, ltb, leb}
@@ -15,13 +15,12 @@ use Rattle.decimal.proofs.Values.{power-mono}
 use Rattle.answer.specs.declared.Witness.{Witness}
 use Rattle.number.specs.Limits.{maxExponent, maxDigits, maxPlaces}
 use Rattle.number.specs.Admitted.{wOf, tOf}
-use Rattle.number.specs.declared.Number.{Number}
-use Rattle.rules.specs.Syntax.{Relation, Rule}
-use Rattle.plural.specs.Meaning.{all, clauseHolds, conditionHolds, meets}
-use Rattle.least.specs.Seek.{Least, seek}
+use Rattle.rules.specs.Syntax.{Relation}
+use Rattle.plural.specs.Meaning.{all, clauseHolds, conditionHolds}
+use Rattle.least.specs.Seek.{Least}
 use Rattle.least.proofs.Seeking.{split, and-false-left, and-false-right, and-true, or-false, least-none, least-or, least-one, seek-least}
 use Rattle.clash.specs.Check.{lowest, admits, numberAt, ranked, block, ranks, found, leastRank}
-use Rattle.clash.specs.Fast.{queryI, queryT, passes, ends, passesAll, search, settledE, settledF, exponentOf, fractions, fractionCode, integerOf, placed, kindRank, clauseRank, fastRank}
+use Rattle.clash.specs.Fast.{queryI, queryT, passes, ends, passesAll, settledE, settledF, exponentOf, fractionCode, integerOf, kindRank, clauseRank, fastRank}
 use Rattle.clash.proofs.Parts.{parts, none-zero, zero-none}
 use Rattle.clash.proofs.Leaping.{search-least}
 use Rattle.clash.proofs.Split.{clause-split}

@@ -3,12 +3,12 @@ use mathlib.Core.Path.{_≡_, refl, sym, ap, ap₂, subst, _∙_}
 use mathlib.Core.Bool.{Bool, true, false, not}
 use mathlib.Core.List.{List, [], _∷_}
 use mathlib.Core.Logic.{_⊎_, ⊎-elim}
-use Prim.Native.Nat.{ℕ, zero, suc, _+_, _-_, _*_, _/_, _%_, _^_, _≤_, _<_, min}
+use Prim.Native.Nat.{ℕ, zero, suc, _+_, _-_, _*_, _/_, _%_, _^_, _≤_, _<_}
 use native.Mathlib.Omega.{arith}
-use native.Mathlib.Nat.{mul-le-mul-right, mul-lt-mul-of-pos-right, zero-mul, mul-one}
+use native.Mathlib.Nat.{mul-le-mul-right, mul-lt-mul-of-pos-right, zero-mul}
 use lib.Pow.{pow-add}
 use lib.Dec.{eqb, ltb, leb}
-use borrow.Author.Tests.{eqb-true, eqb-false, eq-eqb, ne-eqb, ltb-true, ltb-false, lt-ltb, leb-true, leb-false, not-true}
+use borrow.Author.Tests.{eqb-true, eqb-false, eq-eqb, ne-eqb, ltb-true, lt-ltb, leb-true, leb-false, not-true}
 use Rattle.decimal.specs.Choice.{if_then_else_, both, either}
 use Rattle.decimal.proofs.Choices.{tested, choice, not-both}
 use Rattle.decimal.proofs.Values.{power-pos, power-mono}
@@ -18,8 +18,8 @@ use Rattle.rules.specs.Syntax.{Relation}
 use Rattle.plural.specs.Meaning.{all}
 use Rattle.least.specs.Seek.{Least, seek}
 use Rattle.least.proofs.Seeking.{split, and-false-left, and-false-right, and-true, or-false, least-none, least-or, seek-least}
-use Rattle.clash.specs.Fast.{Query, queryT, factor, test, asked, passes, ends, passesAll, search, settledF, fractions, wholeCode, tailOf, tailPlaces, tailCode, partCode, fractionCode}
-use Rattle.clash.proofs.Parts.{Parts, parts, parts-w, parts-t, none-zero, zero-none}
+use Rattle.clash.specs.Fast.{queryT, factor, test, passes, ends, passesAll, settledF, fractions, wholeCode, tailOf, tailPlaces, tailCode, partCode, fractionCode}
+use Rattle.clash.proofs.Parts.{Parts, parts, parts-w, parts-t}
 use Rattle.clash.proofs.Leaping.{both-held, search-least}
 
 -- what v and w settle, and what is asked of t

@@ -1,11 +1,10 @@
 -- The rules that a pack's arrays hold, read by places: each list that `Held` reads is a stretch of elements by index.
-use mathlib.Core.Path.{_≡_, refl, sym, ap, ap₂, subst, _∙_}
-use mathlib.Core.Bool.{Bool, true, false}
+use mathlib.Core.Path.{_≡_, refl, sym, ap, ap₂, _∙_}
+use mathlib.Core.Bool.{Bool, false}
 use mathlib.Core.List.{List, [], _∷_}
 use Prim.Native.Nat.{ℕ, zero, suc, _+_, _-_, _≤_, _<_, min}
 use native.Mathlib.Omega.{arith}
 use native.Mathlib.Nat.{suc-sub-suc, sub-zero, zero-add, add-zero, suc-add, add-suc}
-use lib.Dec.{eqb}
 use lib.ListN.{length, getD, take, drop, length-take}
 use borrow.Author.Tests.{ne-eqb}
 use Rattle.decimal.specs.Choice.{if_then_else_}
@@ -14,7 +13,7 @@ use Rattle.rules.specs.Held.{parts, keywordOf, rangesFrom, relationsFrom, rules
 use Rattle.rules.specs.declared.Pack.{Pack}
 use Rattle.clash.specs.Check.{named, against, firstPair, checkOf}
 use Rattle.clash.specs.Fast.{fastRank, bothOf, fastClash}
-use Rattle.clash.specs.Read.{run, rangeAt, rangesIn, startAt, Table, table, relationAt, relationsIn, clauseAt, clausesIn, ruleClauses, bareRule}
+use Rattle.clash.specs.Read.{run, rangeAt, rangesIn, startAt, Table, table, relationAt, clauseAt, ruleClauses, bareRule}
 use Rattle.clash.specs.declared.Checked.{Checked}
 use Rattle.clash.proofs.Joining.{check-fast}
 

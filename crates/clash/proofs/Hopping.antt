@@ -1,24 +1,22 @@
 -- Hops: one behind the other, over the relations of a stretch, and as steps of a search.
-use mathlib.Core.Path.{_≡_, refl, sym, ap, ap₂, subst, _∙_}
-use mathlib.Core.Bool.{Bool, true, false, not}
-use mathlib.Core.List.{List, [], _∷_, _++_}
+use mathlib.Core.Path.{_≡_, refl, sym, ap, subst, _∙_}
+use mathlib.Core.Bool.{Bool, true, false}
+use mathlib.Core.List.{List}
 use mathlib.Core.Logic.{_⊎_, ⊎-elim}
-use Prim.Native.Nat.{ℕ, zero, suc, _+_, _-_, _*_, _≤_, _<_, min, max}
+use Prim.Native.Nat.{ℕ, _+_, _-_, _*_, _≤_, _<_}
 use native.Mathlib.Omega.{arith}
 use native.Mathlib.Nat.{mul-le-mul-right, le-trans}
-use native.Mathlib.Numerals.{add-one}
 use lib.Dec.{eqb}
 use lib.ListN.{getD}
 use borrow.Author.Tests.{eq-eqb, ne-eqb}
 use Rattle.decimal.specs.Choice.{if_then_else_, both}
-use Rattle.decimal.proofs.Choices.{tested}
 use Rattle.rules.specs.Syntax.{Relation}
 use Rattle.plural.specs.Meaning.{all}
-use Rattle.least.specs.Seek.{Least, Leap}
+use Rattle.least.specs.Seek.{Leap}
 use Rattle.least.specs.Leap.{upwards}
 use Rattle.least.proofs.Seeking.{split, and-false-left, and-false-right}
-use Rattle.clash.specs.Fast.{Query, factor, asked, test, leapTest, intoAny, outOfAll, passes, leapOne}
-use Rattle.clash.specs.Read.{cap, run, rangesIn, startAt, Table, relationAt, relationsIn}
+use Rattle.clash.specs.Fast.{Query, factor, test, leapTest, intoAny, outOfAll, passes, leapOne}
+use Rattle.clash.specs.Read.{cap, startAt, Table, relationAt, relationsIn}
 use Rattle.clash.specs.Hop.{Hop, Room}
 use Rattle.clash.proofs.Leaping.{test-leap, one-leap}
 use Rattle.clash.proofs.Stepping.{run-more, run-end}

@@ -1,17 +1,15 @@
 -- A number meets both of two rules exactly where it meets the one condition that joins their clauses; so the check is that of the search by leaps.
-use mathlib.Core.Path.{_≡_, refl, sym, ap, ap₂, subst, _∙_}
+use mathlib.Core.Path.{_≡_, refl, sym, ap, ap₂, _∙_}
 use mathlib.Core.Bool.{Bool, true, false}
 use mathlib.Core.List.{List, [], _∷_, _++_}
 use Prim.Native.Nat.{ℕ, suc}
-use lib.Dec.{ltb}
-use Rattle.decimal.specs.Choice.{if_then_else_, both, either}
+use Rattle.decimal.specs.Choice.{both, either}
 use Rattle.number.specs.declared.Number.{Number}
 use Rattle.rules.specs.Syntax.{Relation, Rule}
 use Rattle.plural.specs.Meaning.{holds, clauseHolds, conditionHolds, meets}
-use Rattle.least.specs.Seek.{Least}
 use Rattle.least.proofs.Seeking.{least-one, seek-least}
 use Rattle.clash.specs.Check.{numberAt, ranked, admits, ranks, found, leastRank, clashOf, named, against, firstPair, checkOf}
-use Rattle.clash.specs.Fast.{fastRank, withEach, bothOf, fastClash, fastCheck}
+use Rattle.clash.specs.Fast.{withEach, bothOf, fastClash, fastCheck}
 use Rattle.clash.specs.declared.Checked.{Checked}
 use Rattle.clash.proofs.FastIs.{fast-is, least-same}
 

@@ -3,18 +3,18 @@ use mathlib.Core.Path.{_≡_, refl, sym, ap, ap₂, subst, _∙_}
 use mathlib.Core.Bool.{Bool, true, false, not}
 use mathlib.Core.List.{List, [], _∷_}
 use mathlib.Core.Logic.{_⊎_, ⊎-elim}
-use Prim.Native.Nat.{ℕ, zero, suc, _+_, _-_, _*_, _/_, _%_, _≤_, _<_, min, max}
+use Prim.Native.Nat.{ℕ, suc, _+_, _-_, _*_, _/_, _%_, _≤_, _<_, max}
 use native.Mathlib.Omega.{arith}
 use native.Mathlib.Nat.{mod-zero, mul-assoc, add-mul-mod-self-right, div-add-mod', mul-le-mul-left}
-use lib.Dec.{leb, ltb, eqb}
+use lib.Dec.{leb, eqb}
 use borrow.Author.Tests.{eqb-true, eqb-false, lt-leb, not-true}
 use Rattle.decimal.specs.Choice.{if_then_else_, both, either}
 use Rattle.decimal.proofs.Choices.{tested, not-both}
 use Rattle.rules.specs.Syntax.{Range, Relation}
 use Rattle.plural.specs.Meaning.{any, all, inRange}
 use Rattle.least.specs.Seek.{Least, Leap}
-use Rattle.least.specs.Leap.{between, far, into, outOf, upwards, windowEnd, window}
-use Rattle.least.proofs.Seeking.{split, and-false-right, and-true, or-false, leap-and, leap-or}
+use Rattle.least.specs.Leap.{between, upwards}
+use Rattle.least.proofs.Seeking.{split, and-false-right, or-false, leap-and, leap-or}
 use Rattle.least.proofs.Ranges.{leap-same, leap-here, leap-never, into-leap, out-leap, upwards-leap}
 use Rattle.least.proofs.Windows.{Enough, end-enough, window-least}
 use Rattle.clash.specs.Fast.{test, intoAny, outOfAll, leapTest, Query, factor, asked, passes, ends, passesAll, leapOne, leapEnd, leapEach, leapAll, top, reach, leastPeriod, largest, period, divides, repeats, searchEnd, search}

@@ -1,13 +1,13 @@
 -- What the code of two rules works out: the least over the joined clauses.
-use mathlib.Core.Path.{_≡_, refl, sym, ap, ap₂, subst, _∙_}
+use mathlib.Core.Path.{_≡_, ap₂, _∙_}
 use mathlib.Core.List.{List, [], _∷_, _++_}
-use Prim.Native.Nat.{ℕ, zero, suc, _+_, _-_, _≤_, _<_, min}
+use Prim.Native.Nat.{ℕ, _+_, _-_, _≤_, _<_, min}
 use native.Mathlib.Omega.{arith}
 use lib.ListN.{getD}
 use Rattle.rules.specs.Syntax.{Relation}
 use Rattle.clash.specs.Check.{ranks}
 use Rattle.clash.specs.Fast.{clauseRank, fastRank, withEach, bothOf}
-use Rattle.clash.specs.Read.{run, Table, relationsIn, startAt, clauseAt, clausesIn, ruleClauses}
+use Rattle.clash.specs.Read.{Table, relationsIn, startAt, clauseAt, clausesIn, ruleClauses}
 use Rattle.clash.proofs.Stepping.{run-more, run-end}
 use Rattle.clash.proofs.FastIs.{fast-least}
 

@@ -1,13 +1,13 @@
 -- The fraction digits' value f is t * 10 ^ (v - w), with w and t their count and value without trailing zeros; and no other w and t are.
-use mathlib.Core.Path.{_≡_, refl, sym, ap, subst, _∙_}
-use mathlib.Core.List.{List, []}
+use mathlib.Core.Path.{_≡_, sym, ap, subst, _∙_}
+use mathlib.Core.List.{List}
 use mathlib.Core.Logic.{_⊎_, ⊎-elim}
-use Prim.Native.Nat.{ℕ, zero, suc, _+_, _-_, _*_, _%_, _^_, _≤_, _<_}
+use Prim.Native.Nat.{ℕ, suc, _+_, _-_, _*_, _%_, _^_, _≤_, _<_}
 use native.Mathlib.Omega.{arith}
 use native.Mathlib.Nat.{pow-suc, mod-eq-of-lt, mul-assoc, mul-mod-left, mul-le-mul-right, eq-of-mul-eq-mul-right}
 use lib.Pow.{pow-add}
 use lib.ListN.{length}
-use Rattle.decimal.specs.Digits.{AllDigits, value, trim, figures}
+use Rattle.decimal.specs.Digits.{AllDigits, trim, figures}
 use Rattle.decimal.proofs.Runs.{digits-take}
 use Rattle.decimal.proofs.Values.{value-lt, power-pos}
 use Rattle.decimal.proofs.Zeros.{trim-le, trim-front, value-trim, trim-last}

@@ -1,24 +1,24 @@
 -- What the code of v and f works out: the least v in turn, and the least v and f as one number.
 use mathlib.Core.Path.{_≡_, refl, sym, ap, ap₂, subst, _∙_}
-use mathlib.Core.Bool.{Bool, true, false, not}
-use mathlib.Core.List.{List, [], _∷_, _++_}
+use mathlib.Core.Bool.{Bool, true, false}
+use mathlib.Core.List.{List}
 use mathlib.Core.Logic.{_⊎_, ⊎-elim}
 use Prim.Native.Nat.{ℕ, zero, suc, _+_, _-_, _*_, _^_, _≤_, _<_, min}
 use native.Mathlib.Omega.{arith}
-use native.Mathlib.Nat.{pow-succ', mul-le-mul-right, mul-comm, le-trans}
+use native.Mathlib.Nat.{pow-succ', mul-le-mul-right}
 use native.Mathlib.Numerals.{add-one}
 use lib.Pow.{pow-add}
-use lib.Dec.{eqb, ltb, leb}
-use borrow.Author.Tests.{lt-ltb, le-leb, lt-leb}
+use lib.Dec.{ltb, leb}
+use borrow.Author.Tests.{le-leb, lt-leb}
 use Rattle.decimal.specs.Choice.{if_then_else_, both}
 use Rattle.decimal.proofs.Choices.{not-both}
-use Rattle.decimal.proofs.Values.{power-pos, power-mono}
-use Rattle.number.specs.Limits.{maxExponent, maxDigits, maxPlaces}
+use Rattle.decimal.proofs.Values.{power-mono}
+use Rattle.number.specs.Limits.{maxExponent, maxPlaces}
 use Rattle.rules.specs.Syntax.{Relation}
 use Rattle.plural.specs.Meaning.{all}
 use Rattle.least.specs.Seek.{Least, seek}
 use Rattle.least.proofs.Seeking.{split, least-one, seek-least}
-use Rattle.clash.specs.Fast.{Query, queryI, queryT, passes, passesAll, search, settledE, settledF, exponentOf, fractions, wholeCode, tailOf, tailPlaces, tailCode, partCode, fractionCode}
+use Rattle.clash.specs.Fast.{queryT, passes, search, settledE, settledF, exponentOf, fractions, wholeCode, tailOf, tailPlaces, tailCode, partCode, fractionCode}
 use Rattle.clash.specs.Read.{cap}
 use Rattle.clash.specs.Hop.{Room}
 use Rattle.clash.proofs.Leaping.{both-held, search-least}

@@ -1,19 +1,17 @@
 -- Ranks are document 01's order of the admitted numbers: each has its own, and a lower rank comes before.
-use mathlib.Core.Path.{_≡_, refl, sym, ap, subst, _∙_}
-use mathlib.Core.Bool.{Bool, true, false}
+use mathlib.Core.Path.{_≡_, sym, ap, _∙_}
+use mathlib.Core.Bool.{true}
 use mathlib.Core.Logic.{_⊎_, ⊎-elim}
-use Prim.Native.Nat.{ℕ, suc, _+_, _-_, _*_, _/_, _%_, _^_, _≤_, _<_}
+use Prim.Native.Nat.{ℕ, suc, _-_, _/_, _%_, _^_, _≤_, _<_}
 use native.Mathlib.Omega.{arith}
-use lib.Dec.{eqb, ltb, leb}
+use lib.Dec.{eqb}
 use borrow.Author.Tests.{ltb-true, lt-ltb, leb-true, le-leb, eqb-true, eqb-false}
-use Rattle.decimal.specs.Choice.{if_then_else_, both}
 use Rattle.decimal.proofs.Choices.{tested}
 use Rattle.decimal.proofs.Values.{power-mono}
 use Rattle.answer.specs.declared.Witness.{Witness}
-use Rattle.number.specs.Limits.{maxExponent, maxDigits, maxPlaces}
-use Rattle.number.specs.Admitted.{Admitted}
+use Rattle.number.specs.Limits.{maxDigits, maxPlaces}
 use Rattle.least.proofs.Seeking.{split, and-true}
-use Rattle.clash.specs.Check.{lowest, admits, rank, ranked, block, ranks}
+use Rattle.clash.specs.Check.{lowest, admits, rank, ranked, ranks}
 use Rattle.clash.specs.Claims.{IsAdmitted, Before}
 use Rattle.clash.proofs.Leaping.{both-held}
 

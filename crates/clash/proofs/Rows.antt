@@ -3,10 +3,9 @@ use mathlib.Core.Path.{_≡_, refl, _∙_}
 use mathlib.Core.Bool.{Bool, true, false}
 use mathlib.Core.List.{List, [], _∷_}
 use Prim.Native.Nat.{ℕ}
-use Rattle.answer.specs.declared.Witness.{Witness}
 use Rattle.answer.specs.declared.Keyword.{Keyword}
-use Rattle.answer.specs.declared.Keyword.the-variants.{Zero, One, Two, Few, Many, Other}
-use Rattle.rules.specs.Syntax.{Range, Relation, Rule}
+use Rattle.answer.specs.declared.Keyword.the-variants.{One, Two, Few}
+use Rattle.rules.specs.Syntax.{Relation, Rule}
 use Rattle.least.specs.Seek.{seek}
 use Rattle.least.specs.Leap.{into, outOf, walk, windowEnd, window}
 use Rattle.clash.specs.Check.{against, firstPair, checkOf}

@@ -1,18 +1,17 @@
 -- The turns of a search by hops, and what it finds.
-use mathlib.Core.Path.{_≡_, refl, sym, ap, ap₂, subst, _∙_}
-use mathlib.Core.Bool.{Bool, true, false, not}
-use mathlib.Core.List.{List, [], _∷_, _++_}
+use mathlib.Core.Path.{_≡_, sym, ap, subst, _∙_}
+use mathlib.Core.Bool.{Bool, true, false}
+use mathlib.Core.List.{List, _++_}
 use mathlib.Core.Logic.{_⊎_, ⊎-elim}
-use Prim.Native.Nat.{ℕ, zero, suc, _+_, _-_, _*_, _%_, _≤_, _<_}
+use Prim.Native.Nat.{ℕ, suc, _+_, _-_, _%_, _≤_, _<_}
 use native.Mathlib.Omega.{arith}
 use native.Mathlib.Numerals.{add-one}
-use lib.Dec.{eqb}
 use borrow.Author.Tests.{eq-eqb, ne-eqb}
 use Rattle.decimal.specs.Choice.{if_then_else_, both}
 use Rattle.rules.specs.Syntax.{Relation}
 use Rattle.plural.specs.Meaning.{all}
-use Rattle.least.specs.Seek.{Least, Leap}
-use Rattle.least.proofs.Seeking.{split, and-false-right, least-one, least-none, least-widen}
+use Rattle.least.specs.Seek.{Leap}
+use Rattle.least.proofs.Seeking.{split, and-false-right, least-one, least-none}
 use Rattle.least.proofs.Windows.{Enough}
 use Rattle.clash.specs.Fast.{Query, passes, ends, passesAll, leapEnd, searchEnd, search}
 use Rattle.clash.specs.Hop.{Hop}

@@ -1,17 +1,16 @@
 -- What the code of settled relations works out, way by way, and all of a stretch or of two.
-use mathlib.Core.Path.{_≡_, refl, sym, ap, ap₂, subst, _∙_}
+use mathlib.Core.Path.{_≡_, refl, sym, ap, _∙_}
 use mathlib.Core.Bool.{Bool, true, false, not}
-use mathlib.Core.List.{List, [], _∷_, _++_}
-use Prim.Native.Nat.{ℕ, suc, _+_, _-_, _*_, _^_, _≤_, _<_}
-use native.Mathlib.Omega.{arith}
+use mathlib.Core.List.{List, _++_}
+use Prim.Native.Nat.{ℕ, _+_, _-_, _*_, _≤_, _<_}
 use lib.Dec.{eqb}
 use borrow.Author.Tests.{eq-eqb, ne-eqb}
-use Rattle.decimal.specs.Choice.{if_then_else_, both, either}
+use Rattle.decimal.specs.Choice.{if_then_else_, both}
 use Rattle.rules.specs.Syntax.{Relation}
 use Rattle.plural.specs.Meaning.{all}
-use Rattle.least.proofs.Seeking.{and-false-left, and-false-right, and-true}
-use Rattle.clash.specs.Fast.{Query, factor, asked, test, passes, queryT, ofExponent, settledE, settledF}
-use Rattle.clash.specs.Read.{run, Table, relationAt, relationsIn}
+use Rattle.least.proofs.Seeking.{and-false-left}
+use Rattle.clash.specs.Fast.{factor, test, passes, queryT, ofExponent, settledE, settledF}
+use Rattle.clash.specs.Read.{Table, relationAt, relationsIn}
 use Rattle.clash.proofs.Stepping.{run-more, run-end}
 use Rattle.clash.proofs.Windowing.{all-append}
 

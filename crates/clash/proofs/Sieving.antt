@@ -1,19 +1,19 @@
 -- Where no remainder is left, no number passes, and a search finds none.
-use mathlib.Core.Path.{_≡_, refl, sym, ap, ap₂, subst, _∙_}
+use mathlib.Core.Path.{_≡_, refl, sym, ap, subst, _∙_}
 use mathlib.Core.Bool.{Bool, true, false, not}
 use mathlib.Core.List.{List, [], _∷_}
-use Prim.Native.Nat.{ℕ, suc, _+_, _-_, _*_, _/_, _%_, _≤_, _<_}
+use Prim.Native.Nat.{ℕ, _+_, _-_, _*_, _/_, _%_, _≤_, _<_}
 use native.Mathlib.Omega.{arith}
 use native.Mathlib.Nat.{mul-assoc, add-mul-mod-self-right, div-add-mod', mod-lt}
-use lib.Dec.{eqb, ltb}
-use borrow.Author.Tests.{eqb-true, eqb-false, eq-eqb, ne-eqb, ltb-false, lt-ltb, le-ltb, not-true}
+use lib.Dec.{eqb}
+use borrow.Author.Tests.{eqb-true, eq-eqb, ne-eqb, ltb-false, lt-ltb, le-ltb}
 use Rattle.decimal.specs.Choice.{if_then_else_, both}
 use Rattle.decimal.proofs.Choices.{tested, not-both}
 use Rattle.rules.specs.Syntax.{Relation}
 use Rattle.plural.specs.Meaning.{any, all, inRange}
-use Rattle.least.specs.Seek.{Least, seek}
+use Rattle.least.specs.Seek.{seek}
 use Rattle.least.proofs.Seeking.{and-true, and-false-right, least-none, least-one, seek-least}
-use Rattle.clash.specs.Fast.{Query, factor, asked, test, passes, ends, passesAll, search}
+use Rattle.clash.specs.Fast.{Query, factor, test, passes, ends, passesAll, search}
 use Rattle.clash.specs.Sieve.{allows, someLeft}
 use Rattle.clash.proofs.Leaping.{both-held, search-least}
 use Rattle.clash.proofs.Placing.{Before}

@@ -2,18 +2,18 @@
 use mathlib.Core.Path.{_≡_, refl, sym, ap, ap₂, subst, _∙_}
 use mathlib.Core.Bool.{Bool, true, false, not}
 use mathlib.Core.List.{List, [], _∷_}
-use Prim.Native.Nat.{ℕ, _-_, _*_, _%_, _^_, _≤_, _<_}
+use Prim.Native.Nat.{ℕ, _-_, _*_, _%_, _^_}
 use native.Mathlib.Omega.{arith}
 use native.Mathlib.Nat.{mul-one}
 use lib.Dec.{eqb}
-use borrow.Author.Tests.{eqb-true, eq-eqb, ne-eqb}
+use borrow.Author.Tests.{eqb-true, ne-eqb}
 use Rattle.decimal.specs.Choice.{if_then_else_, both, either}
 use Rattle.decimal.proofs.Choices.{tested, eqb-same}
 use Rattle.decimal.proofs.Values.{power-pos}
 use Rattle.number.specs.declared.Number.{Number}
 use Rattle.rules.specs.Syntax.{Range, Relation}
 use Rattle.plural.specs.Meaning.{any, all, inRange, holds, clauseHolds}
-use Rattle.clash.specs.Fast.{test, Query, factor, asked, passes, queryI, queryT, ofExponent, settledE, settledF}
+use Rattle.clash.specs.Fast.{test, factor, passes, queryI, queryT, ofExponent, settledE, settledF}
 
 both-one : (a : Bool) → a ≡ both a true
 both-one true = refl

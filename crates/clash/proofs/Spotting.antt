@@ -1,27 +1,24 @@
 -- What the code of a clause's least number works out: the order of spots is that of their ranks, and the kinds' ranks make the clause's.
 use mathlib.Core.Path.{_≡_, refl, sym, ap, ap₂, subst, _∙_}
-use mathlib.Core.Bool.{Bool, true, false, not}
+use mathlib.Core.Bool.{Bool, true, false}
 use mathlib.Core.List.{List}
 use mathlib.Core.Logic.{_⊎_, ⊎-elim}
-use Prim.Native.Nat.{ℕ, zero, suc, _+_, _-_, _*_, _/_, _%_, _^_, _≤_, _<_, min}
+use Prim.Native.Nat.{ℕ, suc, _+_, _-_, _*_, _/_, _%_, _^_, _≤_, _<_, min}
 use native.Mathlib.Omega.{arith}
 use native.Mathlib.Nat.{le-of-lt, mul-le-mul-right, div-lt-iff-lt-mul, mod-lt}
 use lib.Arith.{digits-lt}
-use lib.Dec.{eqb, ltb, leb}
+use lib.Dec.{ltb}
 use borrow.Author.Tests.{lt-ltb, le-ltb, le-leb, lt-leb, eq-eqb, ne-eqb, ltb-true, ltb-false}
 use Rattle.decimal.specs.Choice.{if_then_else_}
-use Rattle.decimal.proofs.Values.{power-pos, power-mono}
-use Rattle.decimal.proofs.Choices.{tested}
+use Rattle.decimal.proofs.Values.{power-pos}
 use Rattle.number.specs.Limits.{maxExponent, maxDigits, maxPlaces}
 use Rattle.rules.specs.Syntax.{Relation}
 use Rattle.least.proofs.Seeking.{split}
 use Rattle.clash.specs.Check.{lowest, block, ranks}
-use Rattle.clash.specs.Fast.{Query, queryI, search, exponentOf, fractions, fractionCode, integerOf, placed, kindRank, clauseRank}
-use Rattle.clash.specs.Read.{cap}
+use Rattle.clash.specs.Fast.{search, exponentOf, fractions, fractionCode, integerOf, placed, kindRank, clauseRank}
 use Rattle.clash.specs.Hop.{Room}
 use Rattle.clash.specs.Spots.{spotRank, Proper}
 use Rattle.clash.specs.declared.Spot.{Spot}
-use Rattle.clash.proofs.Leaping.{search-least}
 use Rattle.clash.proofs.FastIs.{lowest-le}
 
 pub nowhere-rank : spotRank (record { e = suc maxExponent; v = 0; i = 0; f = 0 }) ≡ ranks

@@ -1,20 +1,20 @@
 -- What the code of a search's window works out: the bounds of a stretch, whether its moduli divide, and the window's end.
-use mathlib.Core.Path.{_≡_, refl, sym, ap, ap₂, subst, _∙_}
+use mathlib.Core.Path.{_≡_, refl, sym, ap, ap₂, _∙_}
 use mathlib.Core.Bool.{Bool, true, false, not}
 use mathlib.Core.List.{List, [], _∷_, _++_}
-use Prim.Native.Nat.{ℕ, zero, suc, _+_, _-_, _*_, _%_, _≤_, _<_, min, max}
+use Prim.Native.Nat.{ℕ, zero, suc, _+_, _-_, _%_, _≤_, _<_, min, max}
 use native.Mathlib.Omega.{arith}
 use native.Mathlib.Numerals.{add-one}
 use lib.Dec.{eqb}
 use lib.ListN.{getD}
 use borrow.Author.Tests.{eq-eqb, ne-eqb}
-use Rattle.decimal.specs.Choice.{if_then_else_, both, either}
-use Rattle.rules.specs.Syntax.{Range, Relation}
+use Rattle.decimal.specs.Choice.{if_then_else_, both}
+use Rattle.rules.specs.Syntax.{Relation}
 use Rattle.plural.specs.Meaning.{all}
 use Rattle.least.specs.Leap.{windowEnd}
 use Rattle.least.proofs.Seeking.{and-false-left, and-false-right, and-true}
 use Rattle.clash.specs.Fast.{Query, factor, asked, top, reach, leastPeriod, largest, period, divides, repeats, searchEnd}
-use Rattle.clash.specs.Read.{run, rangeAt, rangesIn, topIn, startAt, Table, relationAt, relationsIn}
+use Rattle.clash.specs.Read.{run, rangeAt, topIn, startAt, Table, relationAt, relationsIn}
 use Rattle.clash.proofs.Stepping.{run-more, run-end}
 
 -- ---- the upper ends

@@ -1,5 +1,5 @@
 -- The pack check, as a search over all admitted numbers in document 01's order. It is never run: specs/Fast.antt has the search that is.
-use mathlib.Core.Bool.{Bool, true, false}
+use mathlib.Core.Bool.{Bool, false}
 use mathlib.Core.List.{List, [], _∷_}
 use Prim.Native.Nat.{ℕ, suc, _+_, _*_, _/_, _%_, _^_}
 use lib.Dec.{leb, ltb, eqb}

@@ -1,16 +1,15 @@
 -- What is claimed of the check's answer, in document 01's words.
 use mathlib.Core.Path.{_≡_}
-use mathlib.Core.Bool.{Bool, true}
+use mathlib.Core.Bool.{true}
 use mathlib.Core.List.{List, []}
 use mathlib.Core.Logic.{_⊎_}
 use Prim.Native.Nat.{ℕ, _+_, _<_}
 use lib.ListN.{length, getD}
 use Rattle.answer.specs.declared.Keyword.the-variants.{Other}
-use Rattle.answer.specs.declared.Pair.{Pair}
 use Rattle.answer.specs.declared.Witness.{Witness}
 use Rattle.number.specs.Admitted.{Admitted}
-use Rattle.rules.specs.Syntax.{Relation, Rule}
-use Rattle.plural.specs.Meaning.{meets, conditionHolds}
+use Rattle.rules.specs.Syntax.{Rule}
+use Rattle.plural.specs.Meaning.{meets}
 use Rattle.clash.specs.Check.{numberAt}
 use Rattle.clash.specs.declared.Checked.{Checked}
 use Rattle.clash.specs.declared.Checked.the-variants.{Passes, Clashes}

@@ -1,7 +1,7 @@
 -- What stretches of a parsed pack's arrays hold.
 use mathlib.Core.Bool.{Bool, false}
 use mathlib.Core.List.{List, [], _∷_, _++_}
-use Prim.Native.Nat.{ℕ, zero, suc, _-_, _^_, min}
+use Prim.Native.Nat.{ℕ, zero, suc, _-_, min}
 use lib.Dec.{eqb}
 use lib.ListN.{getD}
 use Rattle.decimal.specs.Choice.{if_then_else_}

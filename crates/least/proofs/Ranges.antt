@@ -1,17 +1,16 @@
 -- `into` and `outOf` are leaps of `between` and of its negation; a leap of a test of a multiple; tests that are settled.
-use mathlib.Core.Path.{_≡_, refl, sym, ap, subst, _∙_}
+use mathlib.Core.Path.{_≡_, sym, ap, _∙_}
 use mathlib.Core.Bool.{Bool, true, false, not}
 use mathlib.Core.Logic.{_⊎_, ⊎-elim, inl, inr}
-use Prim.Native.Nat.{ℕ, zero, suc, _+_, _-_, _*_, _/_, _%_, _≤_, _<_, min, max}
+use Prim.Native.Nat.{ℕ, suc, _+_, _-_, _*_, _%_, _≤_, _<_, min}
 use native.Mathlib.Omega.{arith}
 use native.Mathlib.Nat.{mod-le, mod-zero, mod-add-mod, mod-eq-of-lt, mod-lt, le-div-iff-mul-le, div-lt-iff-lt-mul, mul-le-mul-right}
 use lib.Dec.{leb, ltb, eqb}
 use borrow.Author.Tests.{le-leb, lt-leb, ltb-true, ltb-false, leb-true, leb-false, eqb-true, eqb-false}
-use Rattle.decimal.specs.Choice.{if_then_else_, both}
 use Rattle.decimal.proofs.Choices.{choice}
-use Rattle.least.specs.Seek.{Least, Leap}
+use Rattle.least.specs.Seek.{Leap}
 use Rattle.least.specs.Leap.{between, far, into, outOf, upwards}
-use Rattle.least.proofs.Seeking.{split, and-false-left, and-false-right, and-true}
+use Rattle.least.proofs.Seeking.{and-false-left, and-false-right, and-true}
 
 -- a test that says the same
 pub leap-same : {P Q : ℕ → Bool} {x y : ℕ} → ((j : ℕ) → P j ≡ Q j) → Leap P x y → Leap Q x y

@@ -1,5 +1,5 @@
 -- The search by leaps finds the least number, and a window of one period is enough where the test repeats.
-use mathlib.Core.Path.{_≡_, refl, sym, ap, subst, _∙_}
+use mathlib.Core.Path.{_≡_, refl, subst}
 use mathlib.Core.Bool.{Bool, true, false}
 use mathlib.Core.Logic.{_⊎_, ⊎-elim}
 use Prim.Native.Nat.{ℕ, zero, suc, _+_, _-_, _≤_, _<_, min, max}
@@ -7,7 +7,7 @@ use native.Mathlib.Omega.{arith}
 use lib.Dec.{ltb, eqb}
 use borrow.Author.Tests.{eqb-true, eqb-false, ltb-true, ltb-false}
 use Rattle.decimal.specs.Choice.{if_then_else_}
-use Rattle.decimal.proofs.Choices.{choice, tested}
+use Rattle.decimal.proofs.Choices.{choice}
 use Rattle.least.specs.Seek.{Least, Leap}
 use Rattle.least.specs.Leap.{walk, windowEnd, window}
 use Rattle.least.proofs.Seeking.{split, least-none, least-widen, least-period}

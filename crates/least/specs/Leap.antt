@@ -1,6 +1,6 @@
 -- Leaps: where a number's remainder can next be in a range, or outside one; and the search by leaps within a window.
 use mathlib.Core.Bool.{Bool, true, false}
-use Prim.Native.Nat.{ℕ, zero, suc, _+_, _-_, _*_, _/_, _%_, min, max}
+use Prim.Native.Nat.{ℕ, zero, suc, _+_, _-_, _/_, _%_, min, max}
 use lib.Dec.{leb, ltb, eqb}
 use Rattle.decimal.specs.Choice.{if_then_else_, both}
 

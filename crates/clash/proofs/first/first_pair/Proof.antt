@@ -1,6 +1,6 @@
 -- `clash::first::first_pair` stops at the first rule that one behind it clashes with. Invariant: the answer is that of the rules left.
 use native.Mathlib.Omega.{arith}
-use Prim.Native.Nat.{_≤_, _-_}
+use Prim.Native.Nat.{_-_}
 use mathlib.Core.Path.{_≡_, refl, sym, _∙_}
 use Rattle.clash.specs.Read.{table}
 use Rattle.clash.proofs.Answering.{FromRule, rules-found, rules-more, rules-end}

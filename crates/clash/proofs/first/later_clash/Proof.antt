@@ -1,7 +1,7 @@
 -- `clash::first::later_clash` stops at the first that clashes. Invariant: the rules passed do not clash.
 use native.Mathlib.Omega.{arith}
-use Prim.Native.Nat.{_≤_, _<_, _+_, _-_}
-use mathlib.Core.Path.{_≡_, refl, sym, _∙_}
+use Prim.Native.Nat.{_≤_, _+_, _-_}
+use mathlib.Core.Path.{_≡_, refl, _∙_}
 use Rattle.clash.specs.Read.{table}
 use Rattle.clash.specs.declared.Checked.{Checked}
 use Rattle.clash.proofs.Answering.{From, behind-more, behind-found, behind-none}

@@ -1,11 +1,10 @@
 -- `clash::fraction::exponent_of` tries each in turn. Invariant: none before passes.
 use native.Mathlib.Omega.{arith}
-use Prim.Native.Nat.{ℕ, suc, _≤_, _-_, _+_}
-use native.Mathlib.Numerals.{add-one}
-use mathlib.Core.Path.{_≡_, refl}
-use Rattle.number.specs.Limits.{maxExponent, maxPlaces}
+use Prim.Native.Nat.{ℕ, suc, _≤_, _-_}
+use mathlib.Core.Path.{refl}
+use Rattle.number.specs.Limits.{maxExponent}
 use Rattle.plural.specs.Meaning.{all}
-use Rattle.clash.specs.Fast.{settledE, exponentOf}
+use Rattle.clash.specs.Fast.{settledE}
 use Rattle.clash.specs.Read.{table, joinedIn}
 use Rattle.clash.proofs.Placing.{Before, before-start, before-more, seek-at, seek-none, exponent-is}
 use borrow.Author.Needs.{needs}

@@ -1,10 +1,8 @@
 -- `clash::fraction::room_for` is one test and then the other.
-use mathlib.Core.Path.{_≡_, sym, ap, ap₂, _∙_}
-use mathlib.Core.Bool.{Bool}
+use mathlib.Core.Path.{ap}
 use Prim.Native.Nat.{ℕ}
 use lib.Dec.{ltb}
 use borrow.Author.Tests.{not-true, not-false}
-use Rattle.decimal.specs.Choice.{both}
 use Rattle.clash.proofs.Placing.{both-no, both-yes}
 use borrow.Author.Needs.{needs}
 use Rattle.clash.proofs.fraction.room_for.Statement.{statement}

@@ -2,13 +2,12 @@
 use native.Mathlib.Omega.{arith}
 use Prim.Native.Nat.{ℕ, suc, _≤_, _-_, _+_}
 use native.Mathlib.Numerals.{add-one}
-use mathlib.Core.Path.{_≡_, refl}
-use Rattle.number.specs.Limits.{maxExponent, maxPlaces}
+use Rattle.number.specs.Limits.{maxPlaces}
 use Rattle.plural.specs.Meaning.{all}
 use Rattle.decimal.specs.Choice.{both}
 use lib.Dec.{ltb}
 use Prim.Native.Nat.{_^_}
-use Rattle.clash.specs.Fast.{settledF, tailPlaces}
+use Rattle.clash.specs.Fast.{settledF}
 use Rattle.clash.specs.Read.{table, joinedIn}
 use Rattle.clash.proofs.Placing.{Before, before-start, before-more, seek-at, seek-none, places-is}
 use borrow.Author.Needs.{needs}

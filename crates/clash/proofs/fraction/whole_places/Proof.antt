@@ -1,9 +1,8 @@
 -- `clash::fraction::whole_places` tries each in turn. Invariant: none before passes.
 use native.Mathlib.Omega.{arith}
-use Prim.Native.Nat.{ℕ, suc, _≤_, _-_, _+_}
-use native.Mathlib.Numerals.{add-one}
-use mathlib.Core.Path.{_≡_, refl}
-use Rattle.number.specs.Limits.{maxExponent, maxPlaces}
+use Prim.Native.Nat.{ℕ, suc, _≤_, _-_}
+use mathlib.Core.Path.{refl}
+use Rattle.number.specs.Limits.{maxPlaces}
 use Rattle.plural.specs.Meaning.{all}
 use Rattle.clash.specs.Fast.{settledF}
 use Rattle.clash.specs.Read.{table, joinedIn}

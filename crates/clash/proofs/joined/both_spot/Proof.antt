@@ -1,7 +1,7 @@
 -- `clash::joined::both_spot` takes the earliest. Invariant: the best so far with that of the clauses left is that of all.
 use native.Mathlib.Omega.{arith}
-use Prim.Native.Nat.{_≤_, _-_, min}
-use mathlib.Core.Path.{_≡_, refl, sym, _∙_}
+use Prim.Native.Nat.{_-_, min}
+use mathlib.Core.Path.{_≡_, sym, _∙_}
 use Rattle.clash.specs.Fast.{fastRank, bothOf}
 use Rattle.clash.specs.Read.{table, clausesIn}
 use Rattle.clash.specs.Spots.{spotRank, Proper}

@@ -1,6 +1,6 @@
 -- `clash::joined::with_each` takes the earliest. Invariant: the best so far with that of the pairs left is that of all.
 use native.Mathlib.Omega.{arith}
-use Prim.Native.Nat.{_≤_, _-_, min}
+use Prim.Native.Nat.{_-_, min}
 use mathlib.Core.Path.{_≡_, refl, sym, _∙_}
 use Rattle.clash.specs.Fast.{fastRank, withEach}
 use Rattle.clash.specs.Read.{table, clauseAt, clausesIn}

@@ -1,7 +1,7 @@
 -- `clash::leap::into_any` takes the nearest of the ranges. Invariant: the best so far with that of the ranges left is that of all.
 use native.Mathlib.Omega.{arith}
 use Prim.Native.Nat.{_≤_, _+_, _-_, min}
-use mathlib.Core.Path.{_≡_, refl, sym, _∙_}
+use mathlib.Core.Path.{_≡_, sym, _∙_}
 use Rattle.least.specs.Leap.{far}
 use Rattle.clash.specs.Fast.{intoAny}
 use Rattle.clash.specs.Read.{rangesIn}

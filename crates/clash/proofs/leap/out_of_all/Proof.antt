@@ -1,7 +1,7 @@
 -- `clash::leap::out_of_all` takes the furthest of the ranges. Invariant: the best so far with that of the ranges left is that of all.
 use native.Mathlib.Omega.{arith}
-use Prim.Native.Nat.{_≤_, _+_, _-_, max}
-use mathlib.Core.Path.{_≡_, refl, sym, _∙_}
+use Prim.Native.Nat.{_≤_, _-_, max}
+use mathlib.Core.Path.{_≡_, sym, _∙_}
 use Rattle.clash.specs.Fast.{outOfAll}
 use Rattle.clash.specs.Read.{rangesIn}
 use Rattle.clash.proofs.Stepping.{all-start, all-more, all-end}

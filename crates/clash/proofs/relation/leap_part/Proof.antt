@@ -1,8 +1,8 @@
 -- `clash::relation::leap_part` goes from one relation's leap to the next one's. Invariant: nothing passes on the way, and where none leaps
 -- what is left to ask is what the relations left ask.
 use native.Mathlib.Omega.{arith}
-use Prim.Native.Nat.{_≤_, _-_}
-use Rattle.clash.specs.Read.{table, relationAt}
+use Prim.Native.Nat.{_-_}
+use Rattle.clash.specs.Read.{table}
 use Rattle.clash.proofs.Hopping.{Chase, Asks, chase-start, part-more, part-stop, part-end, room-le}
 use borrow.Author.Needs.{needs}
 use Rattle.clash.proofs.relation.leap_part.Statement.{statement}

@@ -1,5 +1,5 @@
 -- `clash::relation::leap_relation` leaps as the relation's sign says, over its ranges.
-use mathlib.Core.Path.{_≡_, sym, ap, ap₂, _∙_}
+use mathlib.Core.Path.{ap₂, _∙_}
 use Prim.Native.Nat.{ℕ}
 use lib.ListN.{getD}
 use Rattle.clash.specs.Fast.{intoAny, outOfAll}

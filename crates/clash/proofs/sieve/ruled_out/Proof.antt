@@ -1,5 +1,5 @@
 -- `clash::sieve::ruled_out`: where no remainder is left, no number passes.
-use mathlib.Core.Path.{_≡_, sym, _∙_}
+use mathlib.Core.Path.{sym, _∙_}
 use borrow.Author.Tests.{not-true}
 use Rattle.clash.specs.Read.{table, joinedIn}
 use Rattle.clash.proofs.Hopping.{room-le}

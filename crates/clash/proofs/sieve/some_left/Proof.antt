@@ -1,6 +1,6 @@
 -- `clash::sieve::some_left` tries each remainder in turn. Invariant: none before is allowed.
 use Prim.Native.Nat.{ℕ, _-_}
-use mathlib.Core.Path.{_≡_, refl}
+use mathlib.Core.Path.{refl}
 use Rattle.plural.specs.Meaning.{all}
 use Rattle.clash.specs.Sieve.{allows}
 use Rattle.clash.specs.Read.{table, joinedIn}

@@ -1,5 +1,5 @@
 -- `clash::window::bounds_part` takes the largest of each. Invariant: that so far with that of the relations left is that of all.
-use Prim.Native.Nat.{_≤_, _-_, max}
+use Prim.Native.Nat.{_-_, max}
 use mathlib.Core.Path.{_≡_, refl, sym, _∙_}
 use Rattle.clash.specs.Fast.{reach, largest}
 use Rattle.clash.specs.Read.{table, relationsIn}

@@ -1,6 +1,6 @@
 -- `clash::window::repeats_part` stops at the first modulus that does not divide. Invariant: all divide exactly where those left do.
 use borrow.Author.Tests.{not-true, not-false}
-use Prim.Native.Nat.{_≤_, _-_}
+use Prim.Native.Nat.{_-_}
 use mathlib.Core.Path.{_≡_, refl, sym, _∙_}
 use Rattle.clash.specs.Read.{table}
 use Rattle.clash.proofs.Windowing.{Divides, divides-more, divides-stop, divides-end}

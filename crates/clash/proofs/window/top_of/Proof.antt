@@ -1,7 +1,7 @@
 -- `clash::window::top_of` finds the largest upper end. Invariant: the best so far with that of the ranges left is that of all.
 use native.Mathlib.Omega.{arith}
-use Prim.Native.Nat.{_≤_, _+_, _-_, max}
-use mathlib.Core.Path.{_≡_, refl, sym, ap, _∙_}
+use Prim.Native.Nat.{_-_, max}
+use mathlib.Core.Path.{_≡_, sym, _∙_}
 use Rattle.clash.specs.Read.{topIn}
 use Rattle.clash.proofs.Windowing.{top-more, top-end}
 use borrow.Author.Needs.{needs}
