@@ -1,0 +1,32 @@
+-- `clash::fraction::tail_of` is a search with the factor 10 ^ k for f.
+use native.Mathlib.Omega.{arith}
+use Rattle.clash.specs.Read.{table, joinedIn}
+use Rattle.clash.proofs.Placing.{room-t, tail-is}
+use borrow.Author.Needs.{needs}
+use Rattle.clash.proofs.fraction.tail_of.Statement.{statement}
+use Rattle.clash.proofs.fraction.tail_of.Tie as tie
+
+power-requires : tie.Need-power-requires
+power-requires c κs = search needs
+
+sub-power : tie.Need-sub-power
+sub-power c = search needs
+
+power-requires-2 : tie.Need-power-requires-2
+power-requires-2 c κs = search needs
+
+least-number-requires : tie.Need-least-number-requires
+least-number-requires c κs =
+    let a = c .before .before .args in
+    let p = c .before .before .pre in
+    (omega arith, room-t (a .k) (c .before .power .result) (c .power2 .result) (p .0) (c .before .power .ensures) (c .power2 .ensures), p .1, p .2)
+
+returns : tie.Need-returns
+returns c =
+    let a = c .before .before .before .args in
+    let T = table (a .operand .now) (a .modulus .now) (a .negated .now) (a .ranges .now) (a .low .now) (a .high .now) in
+    tail-is (a .k) (c .before .before .power .result) (c .before .power2 .result) (c .least-number .result) (joinedIn T (a .s)) (c .before .before .power .ensures) (c .before .power2 .ensures) (c .least-number .ensures)
+
+pub tail-of-spec : {M : Type 1} → statement M
+tail-of-spec =
+    tie.close (tie.spec power-requires sub-power power-requires-2 least-number-requires returns)

@@ -1,0 +1,33 @@
+-- `clash::fraction::whole_code`: there is such a v only where f may be 0.
+use native.Mathlib.Omega.{arith}
+use borrow.Author.Tests.{not-true, not-false}
+use Rattle.clash.specs.Read.{table, joinedIn}
+use Rattle.clash.proofs.Placing.{whole-none, whole-some}
+use borrow.Author.Needs.{needs}
+use Rattle.clash.proofs.fraction.whole_code.Statement.{statement}
+use Rattle.clash.proofs.fraction.whole_code.Tie as tie
+
+zero-allowed-requires : tie.Need-zero-allowed-requires
+zero-allowed-requires c κs = search needs
+
+returns : tie.Need-returns
+returns c =
+    let a = c .before .before .args in
+    let T = table (a .operand .now) (a .modulus .now) (a .negated .now) (a .ranges .now) (a .low .now) (a .high .now) in
+    whole-none (joinedIn T (a .s)) (c .before .zero-allowed .result) (c .before .zero-allowed .ensures) (not-true _ (c .if1 .taken))
+
+whole-places-requires : tie.Need-whole-places-requires
+whole-places-requires c κs = search needs
+
+mul-result : tie.Need-mul-result
+mul-result c = omega (arith, c .whole-places .ensures .1)
+
+returns-2 : tie.Need-returns-2
+returns-2 c =
+    let a = c .before .before .before .args in
+    let T = table (a .operand .now) (a .modulus .now) (a .negated .now) (a .ranges .now) (a .low .now) (a .high .now) in
+    whole-some (joinedIn T (a .s)) (c .before .before .zero-allowed .result) (c .whole-places .result) (c .before .before .zero-allowed .ensures) (not-false _ (c .before .if1 .left)) (c .whole-places .ensures .0)
+
+pub whole-code-spec : {M : Type 1} → statement M
+whole-code-spec =
+    tie.close (tie.spec zero-allowed-requires returns whole-places-requires mul-result returns-2)

@@ -1,0 +1,62 @@
+-- `clash::settle::settled_f_of`: n, v and w are settled, each a way.
+use Rattle.clash.specs.Read.{table, relationAt}
+use Rattle.clash.proofs.Settling.{n-whole, n-part, at-v, at-w, at-other}
+use borrow.Author.Needs.{needs}
+use Rattle.clash.proofs.settle.settled_f_of.Statement.{statement}
+use Rattle.clash.proofs.settle.settled_f_of.Tie as tie
+
+element-copy-out-o : tie.Need-element-copy-out-o
+element-copy-out-o c = search needs
+
+returns : tie.Need-returns
+returns c =
+    let a = c .before .before .before .args in
+    let T = table (a .operand .now) (a .modulus .now) (a .negated .now) (a .ranges .now) (a .low .now) (a .high .now) in
+    n-whole (relationAt T (a .j)) (a .v) (a .w) (search needs) (search needs)
+
+element-copy-out-result : tie.Need-element-copy-out-result
+element-copy-out-result c = search needs
+
+returns-2 : tie.Need-returns-2
+returns-2 c =
+    let a = c .before .before .before .before .args in
+    let T = table (a .operand .now) (a .modulus .now) (a .negated .now) (a .ranges .now) (a .low .now) (a .high .now) in
+    n-part (relationAt T (a .j)) (a .v) (a .w) (search needs) (search needs)
+
+holds-of-requires : tie.Need-holds-of-requires
+holds-of-requires c κs = search needs
+
+returns-3 : tie.Need-returns-3
+returns-3 c =
+    let a = c .before .before .before .before .args in
+    let T = table (a .operand .now) (a .modulus .now) (a .negated .now) (a .ranges .now) (a .low .now) (a .high .now) in
+    at-v (relationAt T (a .j)) (a .v) (a .w) (c .holds-of .result) (search needs) (search needs) (c .holds-of .ensures)
+
+holds-of-requires-2 : tie.Need-holds-of-requires-2
+holds-of-requires-2 c κs = search needs
+
+returns-4 : tie.Need-returns-4
+returns-4 c =
+    let a = c .before .before .before .before .before .args in
+    let T = table (a .operand .now) (a .modulus .now) (a .negated .now) (a .ranges .now) (a .low .now) (a .high .now) in
+    at-w (relationAt T (a .j)) (a .v) (a .w) (c .holds-of2 .result) (search needs) (search needs) (search needs) (c .holds-of2 .ensures)
+
+returns-5 : tie.Need-returns-5
+returns-5 c =
+    let a = c .before .before .before .before .args in
+    let T = table (a .operand .now) (a .modulus .now) (a .negated .now) (a .ranges .now) (a .low .now) (a .high .now) in
+    at-other (relationAt T (a .j)) (a .v) (a .w) (search needs) (search needs) (search needs)
+
+pub settled-f-of-spec : {M : Type 1} → statement M
+settled-f-of-spec =
+    tie.close
+    (tie.spec
+    element-copy-out-o
+    returns
+    element-copy-out-result
+    returns-2
+    holds-of-requires
+    returns-3
+    holds-of-requires-2
+    returns-4
+    returns-5)

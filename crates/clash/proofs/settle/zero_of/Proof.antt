@@ -1,0 +1,38 @@
+-- `clash::settle::zero_of`: only relations of f and t say whether f can be 0.
+use Rattle.clash.specs.Read.{table, relationAt}
+use Rattle.clash.proofs.Settling.{zero-f, zero-t, zero-other}
+use borrow.Author.Needs.{needs}
+use Rattle.clash.proofs.settle.zero_of.Statement.{statement}
+use Rattle.clash.proofs.settle.zero_of.Tie as tie
+
+element-copy-out-o : tie.Need-element-copy-out-o
+element-copy-out-o c = search needs
+
+holds-of-requires : tie.Need-holds-of-requires
+holds-of-requires c κs = search needs
+
+returns : tie.Need-returns
+returns c =
+    let a = c .before .before .before .args in
+    let T = table (a .operand .now) (a .modulus .now) (a .negated .now) (a .ranges .now) (a .low .now) (a .high .now) in
+    zero-f (relationAt T (a .j)) (c .holds-of .result) (search needs) (c .holds-of .ensures)
+
+holds-of-requires-2 : tie.Need-holds-of-requires-2
+holds-of-requires-2 c κs = search needs
+
+returns-2 : tie.Need-returns-2
+returns-2 c =
+    let a = c .before .before .before .before .args in
+    let T = table (a .operand .now) (a .modulus .now) (a .negated .now) (a .ranges .now) (a .low .now) (a .high .now) in
+    zero-t (relationAt T (a .j)) (c .holds-of2 .result) (search needs) (c .holds-of2 .ensures)
+
+returns-3 : tie.Need-returns-3
+returns-3 c =
+    let a = c .before .before .before .args in
+    let T = table (a .operand .now) (a .modulus .now) (a .negated .now) (a .ranges .now) (a .low .now) (a .high .now) in
+    zero-other (relationAt T (a .j)) (search needs) (search needs)
+
+pub zero-of-spec : {M : Type 1} → statement M
+zero-of-spec =
+    tie.close
+    (tie.spec element-copy-out-o holds-of-requires returns holds-of-requires-2 returns-2 returns-3)

@@ -1,0 +1,196 @@
+// The least number that meets two rules: each clause of one joined with each of the other.
+ghost use mathlib.Core.Path.{_≡_};
+ghost use mathlib.Core.Bool.{Bool};
+ghost use mathlib.Core.List.{List, _++_};
+ghost use Prim.Native.Nat.{ℕ, suc, _+_, _-_, _≤_, _<_, min};
+ghost use lib.ListN.{getD};
+ghost use Rattle.clash.specs.Fast.{clauseRank, fastRank, withEach, bothOf};
+ghost use Rattle.clash.specs.Read.{startAt, table, clauseAt, clausesIn, ruleClauses};
+ghost use Rattle.clash.specs.Spots.{spotRank, Proper};
+use crate::Span;
+use crate::Spot;
+use crate::clause;
+
+const MAX_RELATIONS: usize = 320;
+
+const MAX_CLAUSES: usize = 40;
+
+// Where the relations of the clause k begin, and where they end.
+fn relations_start(ends: &[usize; 40], k: usize) -> usize
+    requires { ⌜ k < 40 ⌝ }
+    ensures { λ r. ⌜ r ≡ startAt (now (ends .entry)) k ⌝ }
+{
+    if k == 0 {
+        return 0;
+    }
+    ends[k - 1]
+}
+
+fn relations_stop(ends: &[usize; 40], k: usize) -> usize
+    requires { ⌜ k < 40 ⌝ }
+    ensures { λ r. ⌜ r ≡ min (getD (now (ends .entry)) k 0) 320 ⌝ }
+{
+    let end = ends[k];
+    if end < MAX_RELATIONS {
+        end
+    } else {
+        MAX_RELATIONS
+    }
+}
+
+// Where the clauses of the rule p begin, and where they end.
+fn clauses_start(ends: &[usize; 6], p: usize) -> usize
+    requires { ⌜ p < 6 ⌝ }
+    ensures { λ r. ⌜ r ≡ startAt (now (ends .entry)) p ⌝ }
+{
+    if p == 0 {
+        return 0;
+    }
+    ends[p - 1]
+}
+
+fn clauses_stop(ends: &[usize; 6], p: usize) -> usize
+    requires { ⌜ p < 6 ⌝ }
+    ensures { λ r. ⌜ r ≡ min (getD (now (ends .entry)) p 0) 40 ⌝ }
+{
+    let end = ends[p];
+    if end < MAX_CLAUSES { end } else { MAX_CLAUSES }
+}
+
+// The least number of the clauses k and l joined.
+fn joined_spot<'a>(
+    operand: &'a [u8; 320],
+    modulus: &'a [u32; 320],
+    negated: &'a [bool; 320],
+    ranges: &'a [usize; 320],
+    low: &'a [u32; 2048],
+    high: &'a [u32; 2048],
+    relations: &'a [usize; 40],
+    k: usize,
+    l: usize,
+) -> Spot
+    requires { ⌜ (k < 40) × (l < 40) ⌝ }
+    ensures { λ r. ⌜ (spotRank r ≡ clauseRank (clauseAt (table (now (operand .entry)) (now (modulus .entry)) (now (negated .entry)) (now (ranges .entry)) (now (low .entry)) (now (high .entry))) (now (relations .entry)) k ++ clauseAt (table (now (operand .entry)) (now (modulus .entry)) (now (negated .entry)) (now (ranges .entry)) (now (low .entry)) (now (high .entry))) (now (relations .entry)) l)) × Proper r ⌝ }
+{
+    let from = relations_start(relations, k);
+    let to = relations_stop(relations, k);
+    let start = relations_start(relations, l);
+    let stop = relations_stop(relations, l);
+    let s = Span {
+        from: from,
+        to: to,
+        start: start,
+        stop: stop,
+    };
+    clause::clause_spot(operand, modulus, negated, ranges, low, high, s)
+}
+
+// The earliest of `best` and the least numbers of the clause k with each of those from place `from` to before `to`.
+fn with_each<'a>(
+    operand: &'a [u8; 320],
+    modulus: &'a [u32; 320],
+    negated: &'a [bool; 320],
+    ranges: &'a [usize; 320],
+    low: &'a [u32; 2048],
+    high: &'a [u32; 2048],
+    relations: &'a [usize; 40],
+    k: usize,
+    from: usize,
+    to: usize,
+    first: Spot,
+) -> Spot
+    requires { ⌜ (k < 40) × (to ≤ 40) × Proper first ⌝ }
+    ensures { λ r. ⌜ (spotRank r ≡ min (spotRank first) (fastRank (withEach (clauseAt (table (now (operand .entry)) (now (modulus .entry)) (now (negated .entry)) (now (ranges .entry)) (now (low .entry)) (now (high .entry))) (now (relations .entry)) k) (clausesIn (table (now (operand .entry)) (now (modulus .entry)) (now (negated .entry)) (now (ranges .entry)) (now (low .entry)) (now (high .entry))) (now (relations .entry)) from to)))) × Proper r ⌝ }
+{
+    let mut best = first;
+    let mut l = from;
+    while l < to {
+        let one = joined_spot(
+            operand,
+            modulus,
+            negated,
+            ranges,
+            low,
+            high,
+            relations,
+            k,
+            l,
+        );
+        best = clause::earlier(best, one);
+        l += 1;
+    }
+    best
+}
+
+// The least number of the clauses from place `from` to before `to` with those from `start` to before `stop`.
+fn both_spot<'a>(
+    operand: &'a [u8; 320],
+    modulus: &'a [u32; 320],
+    negated: &'a [bool; 320],
+    ranges: &'a [usize; 320],
+    low: &'a [u32; 2048],
+    high: &'a [u32; 2048],
+    relations: &'a [usize; 40],
+    from: usize,
+    to: usize,
+    start: usize,
+    stop: usize,
+) -> Spot
+    requires { ⌜ (to ≤ 40) × (stop ≤ 40) ⌝ }
+    ensures { λ r. ⌜ (spotRank r ≡ fastRank (bothOf (clausesIn (table (now (operand .entry)) (now (modulus .entry)) (now (negated .entry)) (now (ranges .entry)) (now (low .entry)) (now (high .entry))) (now (relations .entry)) from to) (clausesIn (table (now (operand .entry)) (now (modulus .entry)) (now (negated .entry)) (now (ranges .entry)) (now (low .entry)) (now (high .entry))) (now (relations .entry)) start stop))) × Proper r ⌝ }
+{
+    let mut best = clause::nowhere();
+    let mut k = from;
+    while k < to {
+        best = with_each(
+            operand,
+            modulus,
+            negated,
+            ranges,
+            low,
+            high,
+            relations,
+            k,
+            start,
+            stop,
+            best,
+        );
+        k += 1;
+    }
+    best
+}
+
+// The least number that meets the rules p and q.
+pub fn pair_spot<'a>(
+    operand: &'a [u8; 320],
+    modulus: &'a [u32; 320],
+    negated: &'a [bool; 320],
+    ranges: &'a [usize; 320],
+    low: &'a [u32; 2048],
+    high: &'a [u32; 2048],
+    relations: &'a [usize; 40],
+    clauses: &'a [usize; 6],
+    p: usize,
+    q: usize,
+) -> Spot
+    requires { ⌜ (p < 6) × (q < 6) ⌝ }
+    ensures { λ r. ⌜ (spotRank r ≡ fastRank (bothOf (ruleClauses (table (now (operand .entry)) (now (modulus .entry)) (now (negated .entry)) (now (ranges .entry)) (now (low .entry)) (now (high .entry))) (now (relations .entry)) (now (clauses .entry)) p) (ruleClauses (table (now (operand .entry)) (now (modulus .entry)) (now (negated .entry)) (now (ranges .entry)) (now (low .entry)) (now (high .entry))) (now (relations .entry)) (now (clauses .entry)) q))) × Proper r ⌝ }
+{
+    let from = clauses_start(clauses, p);
+    let to = clauses_stop(clauses, p);
+    let start = clauses_start(clauses, q);
+    let stop = clauses_stop(clauses, q);
+    both_spot(
+        operand,
+        modulus,
+        negated,
+        ranges,
+        low,
+        high,
+        relations,
+        from,
+        to,
+        start,
+        stop,
+    )
+}

@@ -1,0 +1,102 @@
+// The search by leaps for the least number that a clause allows.
+ghost use mathlib.Core.Path.{_≡_};
+ghost use mathlib.Core.List.{List};
+ghost use Prim.Native.Nat.{ℕ, _≤_};
+ghost use Rattle.clash.specs.Fast.{leapEnd, passesAll, search};
+ghost use Rattle.clash.specs.Read.{cap, table, joinedIn};
+ghost use Rattle.clash.specs.Hop.{Hop, Room};
+use crate::Query;
+use crate::Span;
+use crate::relation;
+use crate::sieve;
+use crate::window;
+
+// From x on to where the last digit is as the search asks.
+fn leap_end(q: Query, x: u64) -> u64
+    requires { ⌜ x ≤ cap ⌝ }
+    ensures { λ r. ⌜ r ≡ leapEnd q x ⌝ }
+{
+    if !q.odd {
+        return x;
+    }
+    if x % 10 != 0 {
+        return x;
+    }
+    x + 1
+}
+
+// From x on to where all that the clause asks can hold.
+fn leap_all<'a>(
+    operand: &'a [u8; 320],
+    modulus: &'a [u32; 320],
+    negated: &'a [bool; 320],
+    ranges: &'a [usize; 320],
+    low: &'a [u32; 2048],
+    high: &'a [u32; 2048],
+    s: Span,
+    q: Query,
+    x: u64,
+    end: u64,
+) -> u64
+    requires { ⌜ Room q end × (x ≤ cap) × (s .to ≤ 320) × (s .stop ≤ 320) ⌝ }
+    ensures { λ r. ⌜ Hop (passesAll q (joinedIn (table (now (operand .entry)) (now (modulus .entry)) (now (negated .entry)) (now (ranges .entry)) (now (low .entry)) (now (high .entry))) s)) end x r ⌝ }
+{
+    let y = leap_end(q, x);
+    let z = relation::leap_part(
+        operand,
+        modulus,
+        negated,
+        ranges,
+        low,
+        high,
+        q,
+        s.from,
+        s.to,
+        y,
+        end,
+    );
+    relation::leap_part(
+        operand,
+        modulus,
+        negated,
+        ranges,
+        low,
+        high,
+        q,
+        s.start,
+        s.stop,
+        z,
+        end,
+    )
+}
+
+// The least number from lo on and below hi that passes, or hi.
+pub fn least_number<'a>(
+    operand: &'a [u8; 320],
+    modulus: &'a [u32; 320],
+    negated: &'a [bool; 320],
+    ranges: &'a [usize; 320],
+    low: &'a [u32; 2048],
+    high: &'a [u32; 2048],
+    s: Span,
+    q: Query,
+    lo: u64,
+    hi: u64,
+) -> u64
+    requires { ⌜ (lo ≤ hi) × Room q hi × (s .to ≤ 320) × (s .stop ≤ 320) ⌝ }
+    ensures { λ r. ⌜ r ≡ search q (joinedIn (table (now (operand .entry)) (now (modulus .entry)) (now (negated .entry)) (now (ranges .entry)) (now (low .entry)) (now (high .entry))) s) lo hi ⌝ }
+{
+    if sieve::blocked(operand, modulus, negated, ranges, low, high, s, q, hi) {
+        return hi;
+    }
+    let end = window::window_end(operand, modulus, negated, ranges, low, high, s, q, lo, hi);
+    let mut x = lo;
+    while x < end {
+        let y = leap_all(operand, modulus, negated, ranges, low, high, s, q, x, end);
+        if y == x {
+            return x;
+        }
+        x = y;
+    }
+    hi
+}

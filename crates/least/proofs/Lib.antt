@@ -1,0 +1,3 @@
+pub mod Seeking
+pub mod Ranges
+pub mod Windows
