@@ -36,15 +36,15 @@ second-false bs =
 module _ (x : Number) where
   -- ---- what is met is counted, and stands where the first and the second are told
 
-  counted : {rs : List Rule} {k : ℕ} {w : Keyword} → MeetsAt x rs k w → 1 ≤ countMet (metBy rs x)
+  pub counted : {rs : List Rule} {k : ℕ} {w : Keyword} → MeetsAt x rs k w → 1 ≤ countMet (metBy rs x)
   counted (here h) = rw h (omega arith)
   counted (there m) = omega (arith, counted m)
 
-  first-le : {rs : List Rule} {k : ℕ} {w : Keyword} → MeetsAt x rs k w → firstMet (metBy rs x) ≤ k
+  pub first-le : {rs : List Rule} {k : ℕ} {w : Keyword} → MeetsAt x rs k w → firstMet (metBy rs x) ≤ k
   first-le (here h) = rw h (omega arith)
   first-le (there {r = r} m) = tested (meets r x) (λ e. rw e (omega arith)) (λ e. rw e (omega (arith, first-le m)))
 
-  behind-counted : {rs : List Rule} {k : ℕ} {w : Keyword} → MeetsAt x rs k w → firstMet (metBy rs x) < k → 2 ≤ countMet (metBy rs x)
+  pub behind-counted : {rs : List Rule} {k : ℕ} {w : Keyword} → MeetsAt x rs k w → firstMet (metBy rs x) < k → 2 ≤ countMet (metBy rs x)
   behind-counted (here h) l = absurd (omega arith)
   behind-counted (there {r = r} {rs = rs} m) l =
       tested (meets r x) (λ e. rw e (omega (arith, counted m)))
@@ -58,7 +58,7 @@ module _ (x : Number) where
       tested (meets r x) (λ e. rw e (_⊎_.inr (omega (arith, second-true (metBy rs x), first-le m))))
       (λ e. rw e (⊎-elim (λ q. _⊎_.inl (ap suc q)) (λ q. _⊎_.inr (omega (arith, second-false (metBy rs x)))) (first-or-behind m)))
 
-  first-meets : (rs : List Rule) → 0 < countMet (metBy rs x) → MeetsAt x rs (firstMet (metBy rs x)) (keywordAt rs (firstMet (metBy rs x)))
+  pub first-meets : (rs : List Rule) → 0 < countMet (metBy rs x) → MeetsAt x rs (firstMet (metBy rs x)) (keywordAt rs (firstMet (metBy rs x)))
   first-meets [] h = absurd (omega arith)
   first-meets (r ∷ rs) h = tested (meets r x) (λ e. rw e (here e)) (λ e. rw e (there (first-meets rs (rest e))))
     where
@@ -67,7 +67,7 @@ module _ (x : Number) where
           let h′ : 0 < 0 + countMet (metBy rs x) = rw e at h in
           omega arith
 
-  second-meets : (rs : List Rule) → 2 ≤ countMet (metBy rs x) → MeetsAt x rs (secondMet (metBy rs x)) (keywordAt rs (secondMet (metBy rs x)))
+  pub second-meets : (rs : List Rule) → 2 ≤ countMet (metBy rs x) → MeetsAt x rs (secondMet (metBy rs x)) (keywordAt rs (secondMet (metBy rs x)))
   second-meets [] h = absurd (omega arith)
   second-meets (r ∷ rs) h =
       tested (meets r x) (λ e. rw (e, second-true (metBy rs x)) (there (first-meets rs (one-left e))))
@@ -83,7 +83,7 @@ module _ (x : Number) where
           let h′ : 2 ≤ 0 + countMet (metBy rs x) = rw e at h in
           omega arith
 
-  keyword-of : {rs : List Rule} {k : ℕ} {w : Keyword} → MeetsAt x rs k w → keywordAt rs k ≡ w
+  pub keyword-of : {rs : List Rule} {k : ℕ} {w : Keyword} → MeetsAt x rs k w → keywordAt rs k ≡ w
   keyword-of (here h) = refl
   keyword-of (there m) = keyword-of m
 
@@ -157,7 +157,7 @@ module _ (x : Number) where
 
 -- ---- the sign changes no word
 
-met-sign : (rules : List Rule) (x : Number) → metBy rules (negative x) ≡ metBy rules x
+pub met-sign : (rules : List Rule) (x : Number) → metBy rules (negative x) ≡ metBy rules x
 met-sign [] x = refl
 met-sign (r ∷ rs) x = ap (λ (l : List Bool). meets r x ∷ l) (met-sign rs x)
 

@@ -1,0 +1,164 @@
+-- Demand 3: "The pack check passes exactly when no admitted number meets two rules; otherwise it names the first pair and the least number. Shuffling
+-- a passed pack changes no answer; adding rules changes only words that were "other"." Stated on bytes, over the definitions that the contracts of
+-- `pack_check::check` and `select::select` cite.
+use mathlib.Core.Path.{_≡_, refl, sym, ap, _∙_, subst}
+use mathlib.Core.Bool.{Bool, true, false}
+use mathlib.Core.List.{List, [], _∷_, _++_, map, List·Permᴰ}
+use mathlib.Core.Logic.{_↔_, _⊎_, ⊎-elim}
+use Prim.Native.Nat.{ℕ, zero, suc, _+_, _≤_, _<_}
+use native.Mathlib.Omega.{arith}
+use lib.Dec.{eqb, ltb}
+use borrow.Author.Tests.{eqb-true, eqb-false, ltb-true, ltb-false}
+use lib.ListN.{length}
+use Rattle.decimal.proofs.Choices.{tested, never}
+use Rattle.answer.specs.declared.Keyword.{Keyword}
+use Rattle.answer.specs.declared.Keyword.the-variants.{Other}
+use Rattle.answer.specs.declared.Pair.{Pair}
+use Rattle.answer.specs.declared.Witness.{Witness}
+use Rattle.answer.specs.declared.Refusal.{Refusal}
+use Rattle.answer.specs.declared.Refusal.the-variants.{RulesClash}
+use Rattle.number.specs.Reading.{readNumber}
+use Rattle.number.specs.Admitted.{Admitted, numberFrom}
+use Rattle.number.specs.declared.Number.{Number}
+use Rattle.number.specs.declared.Reading.{Reading}
+use Rattle.number.specs.declared.Reading.the-variants.{Is, Refused as NumberRefused}
+use Rattle.number.proofs.Admissible.{admitted, four-numbers}
+use Rattle.rules.specs.Syntax.{Rule}
+use Rattle.grammar.specs.Reader.{PackAnswer, readPack, segments}
+use Rattle.grammar.specs.Reader.PackAnswer.{Rules, Refused as PackRefused}
+use Rattle.grammar.proofs.Shuffle.{segmentRule, perm-rules, shuffle as read-shuffle, larger as read-larger}
+use Rattle.plural.specs.Meaning.{meets}
+use Rattle.plural.specs.Select.{metBy, countMet, firstMet, secondMet, keywordAt, selection}
+use Rattle.plural.specs.Words.{MeetsAt}
+use Rattle.plural.specs.declared.Selection.{Selection}
+use Rattle.plural.specs.declared.Selection.the-variants.{Word}
+use Rattle.plural.proofs.Chosen.{counted, behind-counted, first-le, first-meets, second-meets, met-sign}
+use Rattle.clash.specs.Check.{numberAt, checkOf}
+use Rattle.clash.specs.Claims.{IsAdmitted, MeetsBoth, Apart, ruleAt, AllApart, Lowest, Claims}
+use Rattle.clash.specs.declared.Checked.{Checked}
+use Rattle.clash.specs.declared.Checked.the-variants.{Passes as RulesPass, Clashes}
+use Rattle.clash.proofs.Claimed.{check-claims, passes-apart, apart-passes}
+use Rattle.pack_check.specs.Check.{checkedBy, checkRules, checkPack}
+use Rattle.pack_check.specs.declared.PackCheck.{PackCheck}
+use Rattle.pack_check.specs.declared.PackCheck.the-variants.{Passes, Refused}
+use Rattle.select.specs.Select.{selectNumber, selectRules, selectOf}
+use Rattle.demands.specs.Packs.{Passed, Shuffle, Larger, Grown}
+use Rattle.demands.specs.Packs.Grown.{kept, named}
+use Rattle.demands.proofs.Counts.{met, wordMet, selected, met-perm, word-perm, met-append, word-append, word-added, word-none, some-met, at-index, index-at}
+
+-- ---- (a) "a pack to which none of 20 to 26 applies passes exactly when no admitted number meets the conditions of two of its rules"
+
+pub passes-exactly : (pack : List ℕ) (rules : List Rule) → readPack pack ≡ Rules rules → Passed pack ↔ AllApart rules
+passes-exactly pack rules e = (λ p. passes-apart rules (unchecked (checkOf rules) (rw e at p)), λ h. rw (e, apart-passes rules h))
+  where
+    unchecked : (c : Checked) → checkedBy c ≡ Passes → c ≡ RulesPass
+    unchecked RulesPass q = refl
+    unchecked (Clashes pair x) q = never (cc)
+
+-- ---- (b) "the pair named is met by a single admitted number, every other such pair comes later, the number named meets both, and every other number that
+-- does comes later"
+
+pub names-the-first : (pack : List ℕ) (rules : List Rule) (pair : Pair) (x : Witness) → readPack pack ≡ Rules rules → checkPack pack ≡ Refused (RulesClash pair x)
+    → (i : ℕ) × (j : ℕ) × (pair .first ≡ 1 + i) × (pair .second ≡ 1 + j) × Lowest rules i j x
+names-the-first pack rules pair x e c = subst (Claims 1 rules) (clashed (checkOf rules) (rw e at c)) (check-claims rules)
+  where
+    clashed : (r : Checked) → checkedBy r ≡ Refused (RulesClash pair x) → r ≡ Clashes pair x
+    clashed RulesPass q = never (cc)
+    clashed (Clashes p y) q = cc
+
+-- a pack that is read and does not pass gets 27: no other refusal is left
+pub else-27 : (pack : List ℕ) (rules : List Rule) → readPack pack ≡ Rules rules → (Passed pack → ⊥) → (pair : Pair) × ((x : Witness) × (checkPack pack ≡ Refused (RulesClash pair x)))
+else-27 pack rules e n = by (checkOf rules) refl
+  where
+    by : (c : Checked) → checkOf rules ≡ c → (pair : Pair) × ((x : Witness) × (checkPack pack ≡ Refused (RulesClash pair x)))
+    by RulesPass q = absurd (n (rw (e, q)))
+    by (Clashes pair x) q = (pair, (x, rw (e, q)))
+
+-- ---- at most one rule is met, of a passed pack
+
+few : (rules : List Rule) → AllApart rules → (w : Witness) → IsAdmitted w → met rules (numberAt w) ≤ 1
+few rules h w a = tested (ltb 1 (met rules (numberAt w))) (λ k. absurd (two (ltb-true 1 (met rules (numberAt w)) k))) (λ k. ltb-false 1 (met rules (numberAt w)) k)
+  where
+    two : 1 < met rules (numberAt w) → ⊥
+    two k =
+        let bs = metBy rules (numberAt w) in
+        let f = at-index (numberAt w) (first-meets (numberAt w) rules (omega arith)) in
+        let s = at-index (numberAt w) (second-meets (numberAt w) rules k) in
+        h (firstMet bs) (secondMet bs) (omega arith) (s .0) w (record { admitted = a; first = f .1; second = s .1 })
+
+apart-of-few : (rules : List Rule) → ((w : Witness) → IsAdmitted w → met rules (numberAt w) ≤ 1) → AllApart rules
+apart-of-few rules h i j l b w m =
+    let q = index-at (numberAt w) rules j b (m .second) in
+    let p = index-at (numberAt w) rules i (omega arith) (m .first) in
+    omega (arith, h w (m .admitted), behind-counted (numberAt w) q (omega (arith, first-le (numberAt w) p)))
+
+-- the number that any text is read as
+read-few : (rules : List Rule) → AllApart rules → (s : List ℕ) (n : Number) → readNumber s ≡ Is n → met rules n ≤ 1
+read-few rules h s n e =
+    subst (λ (m : Number). met rules m ≤ 1) (sym (four-numbers s n e))
+    (signed (n .negative) (few rules h (record { e = n .e; v = n .v; i = n .i; f = n .f }) (admitted s n e)))
+  where
+    signed : (b : Bool) → met rules (numberFrom false (n .e) (n .v .0) (n .i) (n .f .0)) ≤ 1 → met rules (numberFrom b (n .e) (n .v .0) (n .i) (n .f .0)) ≤ 1
+    signed false k = k
+    signed true k = rw (met-sign rules (numberFrom false (n .e) (n .v .0) (n .i) (n .f .0))) k
+
+-- the rules of a passed pack
+passed-rules : (pack : List ℕ) → Passed pack → (rules : List Rule) × ((readPack pack ≡ Rules rules) × AllApart rules)
+passed-rules pack p = by (readPack pack) refl
+  where
+    by : (a : PackAnswer) → readPack pack ≡ a → (rules : List Rule) × ((readPack pack ≡ Rules rules) × AllApart rules)
+    by (Rules rules) e = (rules, (e, passes-exactly pack rules e .0 p))
+    by (PackRefused f) e =
+        let q : Refused f ≡ Passes = rw e at p in
+        never (cc)
+
+-- ---- (c) "every shuffle of a passed pack passes, and selection answers the same under both for any bytes as the number, refused numbers included"
+
+same-words : (rs qs : List Rule) → List·Permᴰ rs qs → AllApart rs → AllApart qs → (s : List ℕ) (r : Reading) → readNumber s ≡ r → selectNumber qs r ≡ selectNumber rs r
+same-words rs qs d h k s (Is n) e =
+    selected n qs (read-few qs k s n e) ∙ ap Word (sym (word-perm n d (read-few rs h s n e))) ∙ sym (selected n rs (read-few rs h s n e))
+same-words rs qs d h k s (NumberRefused f) e = refl
+
+pub shuffled : (pack other : List ℕ) → Shuffle pack other → Passed pack → Passed other × ((number : List ℕ) → selectOf other number ≡ selectOf pack number)
+shuffled pack other d p =
+    let a = passed-rules pack p in
+    let rs = a .0 in
+    let t = read-shuffle pack other rs d (a .1 .0) in
+    let qs = map segmentRule (segments other) in
+    let dr : List·Permᴰ rs qs = subst (λ (l : List Rule). List·Permᴰ l qs) (sym (t .0)) (perm-rules d) in
+    let k : AllApart qs = apart-of-few qs (λ w h. rw (← (met-perm (numberAt w) dr)) (few rs (a .1 .1) w h)) in
+    (passes-exactly other qs (t .1) .1 k, λ number. rw (t .1, a .1 .0) (same-words rs qs dr (a .1 .1) k number (readNumber number) refl))
+
+-- ---- (d) "if a larger pack passes too, every admitted number keeps its word, except that one which had "other" and meets an added rule has that rule's word"
+
+pub grown : (smaller : List ℕ) (added : List (List ℕ)) (larger number : List ℕ) → Larger smaller added larger → Passed smaller → Passed larger
+    → Grown smaller larger number (map segmentRule added)
+grown smaller added larger number d p q =
+    let a = passed-rules smaller p in
+    let b = passed-rules larger q in
+    by (a .0) (b .0) (a .1 .0) (b .1 .0) (a .1 .1) (b .1 .1) (read-larger smaller larger added (a .0) (b .0) d (a .1 .0) (b .1 .0)) (readNumber number) refl
+  where
+    by : (rs qs : List Rule) → readPack smaller ≡ Rules rs → readPack larger ≡ Rules qs → AllApart rs → AllApart qs → List·Permᴰ (rs ++ map segmentRule added) qs
+        → (r : Reading) → readNumber number ≡ r → Grown smaller larger number (map segmentRule added)
+    by rs qs e f h k dr (NumberRefused g) n = kept (rw (e, f, n))
+    by rs qs e f h k dr (Is x) n =
+        let mr = read-few rs h number x n in
+        let mq = read-few qs k number x n in
+        let both-few : met (rs ++ map segmentRule added) x ≤ 1 = rw (met-perm x dr) mq in
+        let word-q : selectOf larger number ≡ Word (wordMet (rs ++ map segmentRule added) x) = rw (f, n) (selected x qs mq ∙ ap Word (sym (word-perm x dr both-few))) in
+        let word-r : selectOf smaller number ≡ Word (wordMet rs x) = rw (e, n) (selected x rs mr) in
+        tested (eqb (met rs x) 0)
+        (λ z.
+        let none = eqb-true (met rs x) 0 z in
+        let other : wordMet rs x ≡ Other = word-of-none rs none in
+        tested (eqb (met (map segmentRule added) x) 0)
+        (λ y. kept (word-q ∙ ap Word (word-added x rs (map segmentRule added) none ∙ word-of-none (map segmentRule added) (eqb-true (met (map segmentRule added) x) 0 y) ∙ sym other) ∙ sym word-r))
+        (λ y.
+        let s = some-met x (map segmentRule added) (pos (eqb-false (met (map segmentRule added) x) 0 y)) in
+        named x (s .0) (wordMet (map segmentRule added) x) n (word-r ∙ ap Word other) (s .1) (word-q ∙ ap Word (word-added x rs (map segmentRule added) none))))
+        (λ z. kept (word-q ∙ ap Word (word-append x rs (map segmentRule added) (pos (eqb-false (met rs x) 0 z))) ∙ sym word-r))
+      where
+        word-of-none : (l : List Rule) → met l x ≡ 0 → wordMet l x ≡ Other
+        word-of-none l z = word-none x l z
+        pos : {m : ℕ} → (m ≡ 0 → ⊥) → 0 < m
+        pos {m} g = omega arith

@@ -1,0 +1,35 @@
+-- Document 01's words about packs, on bytes.
+use mathlib.Core.Path.{_≡_}
+use mathlib.Core.List.{List, _++_, List·Permᴰ}
+use Prim.Native.Nat.{ℕ}
+use Rattle.answer.specs.declared.Keyword.{Keyword}
+use Rattle.answer.specs.declared.Keyword.the-variants.{Other}
+use Rattle.number.specs.Reading.{readNumber}
+use Rattle.number.specs.declared.Number.{Number}
+use Rattle.number.specs.declared.Reading.the-variants.{Is}
+use Rattle.rules.specs.Syntax.{Rule}
+use Rattle.grammar.specs.Reader.{segments}
+use Rattle.plural.specs.Words.{MeetsAt}
+use Rattle.plural.specs.declared.Selection.the-variants.{Word}
+use Rattle.select.specs.Select.{selectOf}
+use Rattle.pack_check.specs.Check.{checkPack}
+use Rattle.pack_check.specs.declared.PackCheck.the-variants.{Passes}
+
+-- "A passed pack is one the check doesn't refuse."
+abbrev pub Passed : List ℕ → Type 0
+Passed pack = checkPack pack ≡ Passes
+
+-- "A shuffle of a pack holds the same rules in any order, each with all the bytes it had between its semicolons or the pack's ends."
+abbrev pub Shuffle : List ℕ → List ℕ → Type 0
+Shuffle pack other = List·Permᴰ (segments pack) (segments other)
+
+-- "A larger pack holds all rules of the smaller, byte for byte likewise and in any order, and besides them rules": `added` are the segments of those.
+-- That their keywords are others follows where the larger pack is read, since 25 refuses a keyword that is repeated.
+abbrev pub Larger : List ℕ → List (List ℕ) → List ℕ → Type 0
+Larger smaller added larger = List·Permᴰ (segments smaller ++ added) (segments larger)
+
+-- "if a larger pack passes too, every admitted number keeps its word, except that one which had "other" and meets an added rule has that rule's word"
+pub data Grown (smaller larger number : List ℕ) (added : List Rule) : Type 0 where
+  kept : selectOf larger number ≡ selectOf smaller number → Grown smaller larger number added
+  named : (n : Number) (k : ℕ) (w : Keyword) → readNumber number ≡ Is n → selectOf smaller number ≡ Word Other → MeetsAt n added k w
+      → selectOf larger number ≡ Word w → Grown smaller larger number added
