@@ -8,11 +8,13 @@ use lib.ListN.{length, getD, take, drop, drop-of-length-le, length-take}
 use lib.Seq.{drop-cons, drop-drop, getD-take}
 use Rattle.decimal.specs.Digits.{numeral}
 use Rattle.bench_line.specs.Jobs.{jobAt, jobOf}
-use Rattle.bench_line.specs.Lines.{spaced, selectionText, jobText, jobAnswer}
+use Rattle.bench_line.specs.Lines.{spaced, selectionText, checkText, jobText, jobAnswer}
 use Rattle.bench_line.specs.declared.JobCut.{JobCut}
-use Rattle.bench_line.specs.declared.JobCut.the-variants.{SelectAt}
+use Rattle.bench_line.specs.declared.JobCut.the-variants.{SelectAt, CheckAt}
 use Rattle.plural.specs.declared.Selection.{Selection}
 use Rattle.select.specs.Select.{selectOf}
+use Rattle.pack_check.specs.Check.{checkPack}
+use Rattle.pack_check.specs.declared.PackCheck.{PackCheck}
 
 -- the figures that are left: one and the rest, or none
 pub spaced-next : (vs : List ℕ) (n k : ℕ) → k < n → k < length vs
@@ -31,3 +33,7 @@ answer-of line r c text e q t = t ∙ ap jobText (sym (ap (jobAt (drop 2 line)) 
 pub select-text : (line fields pack behind number : List ℕ) (n : ℕ) (s : Selection) → fields ≡ drop 2 line → pack ≡ take n fields → behind ≡ drop n fields → number ≡ drop 1 behind
     → s ≡ selectOf pack number → selectionText s ≡ jobText (jobAt (drop 2 line) (SelectAt n))
 select-text line fields pack behind number n s f p b m e = rw (e, p, m, b, f, drop-drop 1 n (drop 2 line))
+
+-- and of a check
+pub check-text : (line fields : List ℕ) (c : PackCheck) → fields ≡ drop 2 line → c ≡ checkPack fields → checkText c ≡ jobText (jobAt (drop 2 line) CheckAt)
+check-text line fields c f e = rw (e, f)

@@ -14,6 +14,9 @@ use Rattle.answer.specs.declared.Refusal.{Refusal}
 use Rattle.plural.specs.declared.Selection.{Selection}
 use Rattle.plural.specs.declared.Selection.the-variants.{Word, Refused}
 use Rattle.select.specs.Select.{selectOf}
+use Rattle.pack_check.specs.Check.{checkPack}
+use Rattle.pack_check.specs.declared.PackCheck.{PackCheck}
+use Rattle.pack_check.specs.declared.PackCheck.the-variants.{Passes, Refused as PackRefused}
 use Rattle.bench_line.specs.Jobs.{Job, jobOf}
 use Rattle.bench_line.specs.Jobs.Job.{select, check, format, none}
 
@@ -47,9 +50,14 @@ abbrev pub selectionText : Selection → List ℕ
 selectionText (Word k) = wordText k
 selectionText (Refused r) = refusalText 115 r
 
+-- "A passed pack prints `c ok`."
+abbrev pub checkText : PackCheck → List ℕ
+checkText Passes = 99 ∷ 32 ∷ 111 ∷ 107 ∷ 10 ∷ []
+checkText (PackRefused r) = refusalText 99 r
+
 abbrev pub jobText : Job → List ℕ
 jobText (select pack number) = selectionText (selectOf pack number)
-jobText (check pack) = unread 61
+jobText (check pack) = checkText (checkPack pack)
 jobText (format pattern number) = unread 61
 jobText none = unread 61
 

@@ -10,10 +10,11 @@ ghost use lib.ListN.{take, drop};
 ghost use Rattle.decimal.specs.Digits.{numeral};
 ghost use Rattle.area.specs.Area.{Wrote};
 ghost use Rattle.bench_line.specs.Jobs.{jobOf, jobAt, jobWith, lastField};
-ghost use Rattle.bench_line.specs.Lines.{unread, spaced, refusalText, wordText, selectionText, jobAnswer};
+ghost use Rattle.bench_line.specs.Lines.{unread, spaced, refusalText, wordText, selectionText, checkText, jobAnswer};
 use answer::FigureList;
 use answer::Keyword;
 use answer::Refusal;
+use pack_check::PackCheck;
 use plural::Selection;
 ghost use Rattle.bench_line.specs.Stream.{lastCut, cutOf, cutAnswer, Kept};
 
@@ -192,6 +193,15 @@ fn append_selection(out: &mut [u8], at: usize, s: Selection) -> usize
     }
 }
 
+fn append_check(out: &mut [u8], at: usize, c: PackCheck) -> usize
+    ensures { λ r. ⌜ Wrote (now (out .entry)) at (checkText c) (now (out .exit)) r ⌝ }
+{
+    match c {
+        PackCheck::Passes => area::append(out, at, b"c ok\n"),
+        PackCheck::Refused(refusal) => append_refusal(out, at, 99, refusal),
+    }
+}
+
 // Appends the answer to a line of at most MAX_LINE bytes.
 fn append_job(out: &mut [u8], at: usize, line: &[u8]) -> usize
     ensures { λ r. ⌜ Wrote (now (out .entry)) at (jobAnswer (now (line .entry))) (now (out .exit)) r ⌝ }
@@ -207,7 +217,7 @@ fn append_job(out: &mut [u8], at: usize, line: &[u8]) -> usize
                 decimal::cut::after(decimal::cut::after(fields, n), 1),
             ),
         ),
-        JobCut::CheckAt => append_unread(out, at, 61),
+        JobCut::CheckAt => append_check(out, at, pack_check::check(fields)),
         JobCut::FormatAt(_) => append_unread(out, at, 61),
         JobCut::Unknown => append_unread(out, at, 61),
     }

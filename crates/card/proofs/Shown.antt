@@ -1,6 +1,38 @@
--- Every row of the card is right, by computation from the definitions.
-use mathlib.Core.Path.{refl}
-use Rattle.card.specs.Card.{All, rows}
+-- Every row of the card is right, by computation from the definitions. A clash is computed from the pack's rules by the search by leaps, which equals
+-- the definition (clash/proofs/Rows.antt).
+use mathlib.Core.Path.{_≡_, refl}
+use mathlib.Core.List.{List, [], _∷_}
+use Prim.Native.Nat.{ℕ}
+use Rattle.rules.specs.Syntax.{Rule}
+use Rattle.grammar.specs.Reader.{readPack}
+use Rattle.grammar.specs.Reader.PackAnswer.{Rules}
+use Rattle.clash.specs.Check.{checkOf}
+use Rattle.clash.specs.declared.Checked.{Checked}
+use Rattle.clash.proofs.Rows.{clash, packTens, row-tens, packTrailing, row-trailing, packSeven, row-seven}
+use Rattle.pack_check.specs.Check.{checkedBy, checkPack}
+use Rattle.card.specs.Card.{All, rows, tensPack, trailingPack, sevenPack}
+
+-- what the check says of a pack's text, from what it says of the rules that are read of it
+by-rules : (pack : List ℕ) (rules : List Rule) (c : Checked) → readPack pack ≡ Rules rules → checkOf rules ≡ c → checkPack pack ≡ checkedBy c
+by-rules pack rules c e f = rw (e, f)
+
+tens-read : readPack tensPack ≡ Rules packTens
+tens-read = refl
+
+tens : checkPack tensPack ≡ checkedBy (clash 1 2 0 0 1 0)
+tens = by-rules tensPack packTens (clash 1 2 0 0 1 0) tens-read row-tens
+
+trailing-read : readPack trailingPack ≡ Rules packTrailing
+trailing-read = refl
+
+trailing : checkPack trailingPack ≡ checkedBy (clash 1 2 0 2 0 50)
+trailing = by-rules trailingPack packTrailing (clash 1 2 0 2 0 50) trailing-read row-trailing
+
+seven-read : readPack sevenPack ≡ Rules packSeven
+seven-read = refl
+
+seven : checkPack sevenPack ≡ checkedBy (clash 1 2 0 0 1000007 0)
+seven = by-rules sevenPack packSeven (clash 1 2 0 0 1000007 0) seven-read row-seven
 
 pub card : All rows
-card = (refl, (refl, (refl, (refl, tt))))
+card = (refl, (refl, (refl, (refl, (tens, (trailing, (seven, tt)))))))

@@ -10,17 +10,22 @@ use Rattle.number.specs.declared.Reading.{Reading}
 use Rattle.number.specs.declared.Reading.the-variants.{Is}
 use Rattle.plural.specs.declared.Selection.{Selection}
 use Rattle.plural.specs.declared.Selection.the-variants.{Word}
+use Rattle.answer.specs.declared.Refusal.the-variants.{RulesClash}
+use Rattle.pack_check.specs.Check.{checkPack}
+use Rattle.pack_check.specs.declared.PackCheck.the-variants.{Refused}
 use Rattle.select.specs.Select.{selectOf}
 
 -- A row of the card: what is asked, and the answer that the card gives.
 pub data Row : Type 0 where
   operands : (text : List ℕ) → Reading → Row
   word : (pack number : List ℕ) → Selection → Row
+  clash : (pack : List ℕ) (first second e v i f : ℕ) → Row
 
 -- the row's answer is that of the definitions
 abbrev pub Right : Row → Type 0
 Right (operands text r) = readNumber text ≡ r
 Right (word pack number s) = selectOf pack number ≡ s
+Right (clash pack first second e v i f) = checkPack pack ≡ Refused (RulesClash (record { first = first; second = second }) (record { e = e; v = record { 0 = v }; i = i; f = record { 0 = f } }))
 
 abbrev pub All : List Row → Type 0
 All [] = Unit {0}
@@ -39,6 +44,21 @@ positive i v w f t e =
       t = record { 0 = t };
     })
 
+-- "one: n = 1; few: n % 10 = 1..3"
+abbrev pub tensPack : List ℕ
+tensPack =
+    111 ∷ 110 ∷ 101 ∷ 58 ∷ 32 ∷ 110 ∷ 32 ∷ 61 ∷ 32 ∷ 49 ∷ 59 ∷ 32 ∷ 102 ∷ 101 ∷ 119 ∷ 58 ∷ 32 ∷ 110 ∷ 32 ∷ 37 ∷ 32 ∷ 49 ∷ 48 ∷ 32 ∷ 61 ∷ 32 ∷ 49 ∷ 46 ∷ 46 ∷ 51 ∷ []
+
+-- "one: t = 5; two: f = 50"
+abbrev pub trailingPack : List ℕ
+trailingPack =
+    111 ∷ 110 ∷ 101 ∷ 58 ∷ 32 ∷ 116 ∷ 32 ∷ 61 ∷ 32 ∷ 53 ∷ 59 ∷ 32 ∷ 116 ∷ 119 ∷ 111 ∷ 58 ∷ 32 ∷ 102 ∷ 32 ∷ 61 ∷ 32 ∷ 53 ∷ 48 ∷ []
+
+-- "one: i != 0..999999; two: i % 10 = 7"
+abbrev pub sevenPack : List ℕ
+sevenPack =
+    111 ∷ 110 ∷ 101 ∷ 58 ∷ 32 ∷ 105 ∷ 32 ∷ 33 ∷ 61 ∷ 32 ∷ 48 ∷ 46 ∷ 46 ∷ 57 ∷ 57 ∷ 57 ∷ 57 ∷ 57 ∷ 57 ∷ 59 ∷ 32 ∷ 116 ∷ 119 ∷ 111 ∷ 58 ∷ 32 ∷ 105 ∷ 32 ∷ 37 ∷ 32 ∷ 49 ∷ 48 ∷ 32 ∷ 61 ∷ 32 ∷ 55 ∷ []
+
 abbrev pub rows : List Row
 rows =
     -- "1.20050c3: i 1200, v 2, w 1, f 50, t 5, e 3"
@@ -49,4 +69,10 @@ rows =
     ∷ word (111 ∷ 110 ∷ 101 ∷ 58 ∷ 32 ∷ 105 ∷ 32 ∷ 61 ∷ 32 ∷ 49 ∷ 32 ∷ 97 ∷ 110 ∷ 100 ∷ 32 ∷ 118 ∷ 32 ∷ 61 ∷ 32 ∷ 48 ∷ []) (49 ∷ 46 ∷ 48 ∷ []) (Word Other)
     -- "`one: n = 1; few: n = 2..4`: 3.0 few"
     ∷ word (111 ∷ 110 ∷ 101 ∷ 58 ∷ 32 ∷ 110 ∷ 32 ∷ 61 ∷ 32 ∷ 49 ∷ 59 ∷ 32 ∷ 102 ∷ 101 ∷ 119 ∷ 58 ∷ 32 ∷ 110 ∷ 32 ∷ 61 ∷ 32 ∷ 50 ∷ 46 ∷ 46 ∷ 52 ∷ []) (51 ∷ 46 ∷ 48 ∷ []) (Word Few)
+    -- "`one: n = 1; few: n % 10 = 1..3`: 27, pair 1 2, 0 0 1 0"
+    ∷ clash tensPack 1 2 0 0 1 0
+    -- "`one: t = 5; two: f = 50`: 0 2 0 50"
+    ∷ clash trailingPack 1 2 0 2 0 50
+    -- "`one: i != 0..999999; two: i % 10 = 7`: 0 0 1000007 0"
+    ∷ clash sevenPack 1 2 0 0 1000007 0
     ∷ []

@@ -160,5 +160,6 @@ grown smaller added larger number d p q =
       where
         word-of-none : (l : List Rule) → met l x ≡ 0 → wordMet l x ≡ Other
         word-of-none l z = word-none x l z
+
         pos : {m : ℕ} → (m ≡ 0 → ⊥) → 0 < m
         pos {m} g = omega arith

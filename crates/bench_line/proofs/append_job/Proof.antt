@@ -1,7 +1,7 @@
 -- `bench_line::append_job` answers the job of a line.
 use mathlib.Core.Path.{refl}
 use Rattle.area.proofs.Pieces.{renamed}
-use Rattle.bench_line.proofs.Answers.{answer-of, select-text}
+use Rattle.bench_line.proofs.Answers.{answer-of, select-text, check-text}
 use borrow.Author.Needs.{needs}
 use Rattle.bench_line.proofs.append_job.Statement.{statement}
 use Rattle.bench_line.proofs.append_job.Tie as tie
@@ -33,20 +33,23 @@ append-selection-requires c κs = search needs
 enum-told : tie.Need-enum-told
 enum-told c = search needs
 
-append-unread-requires : tie.Need-append-unread-requires
-append-unread-requires c κs = search needs
+check-requires : tie.Need-check-requires
+check-requires c κs = search needs
+
+append-check-requires : tie.Need-append-check-requires
+append-check-requires c κs = search needs
 
 enum-told-2 : tie.Need-enum-told-2
 enum-told-2 c = search needs
 
-append-unread-requires-2 : tie.Need-append-unread-requires-2
-append-unread-requires-2 c κs = search needs
+append-unread-requires : tie.Need-append-unread-requires
+append-unread-requires c κs = search needs
 
 enum-told-3 : tie.Need-enum-told-3
 enum-told-3 c = search needs
 
-append-unread-requires-3 : tie.Need-append-unread-requires-3
-append-unread-requires-3 c κs = search needs
+append-unread-requires-2 : tie.Need-append-unread-requires-2
+append-unread-requires-2 c κs = search needs
 
 same-length : tie.Need-same-length
 same-length c = search needs
@@ -68,9 +71,11 @@ same-length-2 c = search needs
 
 returns-2 : tie.Need-returns-2
 returns-2 c =
-    let line = c .before .before .before .before .before .before .before .before .before .before .args .line .now in
-    let j = c .before .before .before .before .before .before .read-job in
-    renamed (answer-of line (j .result) _ _ (j .ensures) (c .before .before .before .before .enum-told .given .1) refl) (c .before .before .append-unread .ensures)
+    let line = c .before .before .before .before .before .before .before .before .before .before .before .args .line .now in
+    let f = c .before .before .before .before .before .before .before .before .after in
+    let j = c .before .before .before .before .before .before .before .read-job in
+    let t = c .before .before .before .check in
+    renamed (answer-of line (j .result) _ _ (j .ensures) (c .before .before .before .before .before .enum-told .given .1) (check-text line (f .result .now) (t .result) (f .ensures) (t .ensures))) (c .before .before .append-check .ensures)
 
 same-length-3 : tie.Need-same-length-3
 same-length-3 c = search needs
@@ -79,7 +84,7 @@ returns-3 : tie.Need-returns-3
 returns-3 c =
     let line = c .before .before .before .before .before .before .before .before .before .before .args .line .now in
     let j = c .before .before .before .before .before .before .read-job in
-    renamed (answer-of line (j .result) _ _ (j .ensures) (c .before .before .before .before .enum-told2 .given .1) refl) (c .before .before .append-unread2 .ensures)
+    renamed (answer-of line (j .result) _ _ (j .ensures) (c .before .before .before .before .enum-told2 .given .1) refl) (c .before .before .append-unread .ensures)
 
 same-length-4 : tie.Need-same-length-4
 same-length-4 c = search needs
@@ -88,7 +93,7 @@ returns-4 : tie.Need-returns-4
 returns-4 c =
     let line = c .before .before .before .before .before .before .before .before .before .before .args .line .now in
     let j = c .before .before .before .before .before .before .read-job in
-    renamed (answer-of line (j .result) _ _ (j .ensures) (c .before .before .before .before .enum-told3 .given .1) refl) (c .before .before .append-unread3 .ensures)
+    renamed (answer-of line (j .result) _ _ (j .ensures) (c .before .before .before .before .enum-told3 .given .1) refl) (c .before .before .append-unread2 .ensures)
 
 pub append-job-spec : {M : Type 1} → statement M
 append-job-spec =
@@ -103,11 +108,12 @@ append-job-spec =
     select-requires
     append-selection-requires
     enum-told
-    append-unread-requires
+    check-requires
+    append-check-requires
     enum-told-2
-    append-unread-requires-2
+    append-unread-requires
     enum-told-3
-    append-unread-requires-3
+    append-unread-requires-2
     same-length
     returns
     same-length-2
