@@ -7,6 +7,7 @@ use native.Mathlib.Omega.{arith}
 use lib.Dec.{eqb, ltb}
 use lib.ListN.{length}
 use borrow.Author.Tests.{eqb-true, eqb-false, eq-eqb, ne-eqb, ltb-false, le-ltb}
+use Rattle.decimal.specs.Split.{onFirst}
 use Rattle.decimal.specs.Choice.{if_then_else_, both}
 use Rattle.token.specs.Spelling.{same, among}
 use Rattle.grammar.specs.Grammar.{Text, all, RuleTree}
@@ -16,7 +17,7 @@ use Rattle.grammar.specs.Steps.State.{WantsName}
 use Rattle.grammar.specs.Steps.Read.{Whole, Cut}
 use Rattle.grammar.specs.Limits.{maxBytes}
 use Rattle.token.specs.Token.{tokens}
-use Rattle.grammar.specs.Reader.{onFirst, segments, Stop, stop, Fault, faultIn, again, keywordIn, Parsed, andThen, rulesFrom, faultFrom, judge, readPack}
+use Rattle.grammar.specs.Reader.{segments, Stop, stop, Fault, faultIn, again, keywordIn, Parsed, andThen, rulesFrom, faultFrom, judge, readPack}
 use Rattle.grammar.specs.Reader.Stop.{Fine, Stuck}
 use Rattle.grammar.specs.Reader.Fault.{None, At}
 use Rattle.grammar.specs.Reader.Parsed.{Trees, Bad}

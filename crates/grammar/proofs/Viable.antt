@@ -7,6 +7,7 @@ use Prim.Native.Nat.{ℕ, zero, suc, _+_}
 use native.Mathlib.Omega.{arith}
 use lib.Dec.{eqb}
 use lib.ListN.{length, take, drop}
+use Rattle.decimal.specs.Split.{onFirst}
 use Rattle.decimal.specs.Choice.{if_then_else_}
 use Rattle.token.specs.Spelling.{same}
 use Rattle.grammar.specs.Grammar.{Text, all, colon, semi, equal, other, RuleTree, PackTree, each, ofRule, rightRule, ofPack, rightPack}
@@ -15,7 +16,7 @@ use Rattle.grammar.specs.Grammar.PackTree.{Parted}
 use Rattle.grammar.specs.Steps.{State, step, steps, Read, ends}
 use Rattle.grammar.specs.Steps.State.{WantsName, WantsColon, WantsNothing, WantsOperand, HasOperand, WantsModulus, HasModulus, WantsValue, HasValue, WantsUpper, HasUpper, Dead}
 use Rattle.grammar.specs.Steps.Read.{Whole, Cut}
-use Rattle.grammar.specs.Reader.{onFirst, segments, isDead, Stop, atEnd, stop, Parsed, andThen, rulesFrom}
+use Rattle.grammar.specs.Reader.{segments, isDead, Stop, atEnd, stop, Parsed, andThen, rulesFrom}
 use Rattle.grammar.specs.Reader.Stop.{Fine, Stuck}
 use Rattle.grammar.specs.Reader.Parsed.{Trees, Bad}
 use Rattle.token.proofs.Spellings.{both-0, both-1, both-in, same-eq}

@@ -8,6 +8,7 @@ use lib.Dec.{eqb, ltb}
 use lib.ListN.{length, take, drop, length-drop}
 use lib.Seq.{take-append-le, drop-append-le}
 use borrow.Author.Tests.{ne-eqb, eqb-true, eqb-false}
+use Rattle.decimal.specs.Split.{onFirst}
 use Rattle.decimal.specs.Choice.{if_then_else_, both}
 use Rattle.decimal.specs.Digits.{isDigit, run}
 use Rattle.decimal.proofs.Choices.{choice}
@@ -23,7 +24,7 @@ use Rattle.grammar.specs.Grammar.RuleTree.{Bare, Named}
 use Rattle.grammar.specs.Steps.{Front, State, goOn, signed, step, steps, Read, ends}
 use Rattle.grammar.specs.Steps.State.{WantsName, WantsColon, WantsNothing, WantsOperand, HasOperand, WantsModulus, HasModulus, WantsValue, HasValue, WantsUpper, HasUpper, Dead}
 use Rattle.grammar.specs.Steps.Read.{Whole}
-use Rattle.grammar.specs.Reader.{PackAnswer, onFirst, segments, stop, Parsed, rulesFrom, trouble, Fault, orElse, faultAt, faultIn, keywordIn, again, faultFrom, judge, readPack}
+use Rattle.grammar.specs.Reader.{PackAnswer, segments, stop, Parsed, rulesFrom, trouble, Fault, orElse, faultAt, faultIn, keywordIn, again, faultFrom, judge, readPack}
 use Rattle.grammar.specs.Reader.Parsed.{Trees, Bad}
 use Rattle.grammar.specs.Reader.Fault.{None, At}
 use Rattle.grammar.specs.Reader.PackAnswer.{Refused}

@@ -6,6 +6,7 @@ use lib.Dec.{ltb, eqb}
 use lib.ListN.{length}
 use Rattle.decimal.specs.Choice.{if_then_else_}
 use Rattle.decimal.specs.Digits.{value}
+use Rattle.decimal.specs.Split.{split}
 use Rattle.answer.specs.Words.{spelling}
 use Rattle.answer.specs.declared.Keyword.the-variants.{Zero, One, Two, Few, Many, Other}
 use Rattle.answer.specs.declared.PackRow.{PackRow}
@@ -24,13 +25,8 @@ use Rattle.grammar.specs.Steps.Read.{Whole, Cut}
 
 -- ---- segments: what stands between the semicolons or the pack's ends, one more than there are semicolons. No token holds the byte `;`.
 
-abbrev pub onFirst : ℕ → List Text → List Text
-onFirst b [] = (b ∷ []) ∷ []
-onFirst b (x ∷ xs) = (b ∷ x) ∷ xs
-
 abbrev pub segments : Text → List Text
-segments [] = [] ∷ []
-segments (b ∷ s) = if eqb b 59 then [] ∷ segments s else onFirst b (segments s)
+segments s = split 59 s
 
 -- ---- 21: "start of the first token or stray byte no well-formed pack could have there, else the length"
 
