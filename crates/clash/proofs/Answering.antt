@@ -14,12 +14,13 @@ use Rattle.number.specs.Limits.{maxExponent, maxDigits, maxPlaces}
 use Rattle.rules.specs.Syntax.{Rule}
 use Rattle.clash.specs.Check.{block, ranks, ranked, named, against, firstPair}
 use Rattle.clash.specs.Fast.{fastRank, bothOf, fastClash}
-use Rattle.clash.specs.Read.{run, Table, ruleClauses, bareRule}
+use Rattle.rules.specs.Stretch.{stretch, Table}
+use Rattle.clash.specs.Read.{ruleClauses, bareRule}
 use Rattle.clash.specs.Spots.{spotRank, Proper, witnessOf, answered}
 use Rattle.clash.specs.declared.Spot.{Spot}
 use Rattle.clash.specs.declared.Checked.{Checked}
 use Rattle.clash.specs.declared.Checked.the-variants.{Passes, Clashes}
-use Rattle.clash.proofs.Stepping.{run-more, run-end}
+use Rattle.rules.proofs.Stretches.{stretch-cons, stretch-nil}
 
 -- ---- what is found
 
@@ -71,11 +72,11 @@ module _ (T : Table) (R C : List ℕ) (p n : ℕ) where
 
   -- the rules from q on
   abbrev pub From : ℕ → Checked → Checked
-  From q rest = against fastClash (p + 1) (q + 1) (bareRule T R C p) (run (bareRule T R C) q (n - q)) rest
+  From q rest = against fastClash (p + 1) (q + 1) (bareRule T R C p) (stretch (bareRule T R C) q (n - q)) rest
 
   step : (q : ℕ) (rest : Checked) → q < n → From q rest ≡ named (p + 1) (q + 1) (fastRank (bothOf (ruleClauses T R C p) (ruleClauses T R C q))) (From (q + 1) rest)
   unfolding against
-  step q rest h = rw (run-more (bareRule T R C) q n h, add-one (q + 1))
+  step q rest h = rw (stretch-cons (bareRule T R C) q n h, add-one (q + 1))
 
   pub behind-more : (q : ℕ) (s : Spot) → q < n → spotRank s ≡ fastRank (bothOf (ruleClauses T R C p) (ruleClauses T R C q)) → maxExponent < s .e → (rest : Checked) → From q rest ≡ From (q + 1) rest
   behind-more q s h e g rest =
@@ -93,17 +94,17 @@ module _ (T : Table) (R C : List ℕ) (p n : ℕ) where
 
   pub behind-none : (q : ℕ) (s : Spot) → n ≤ q → (rest : Checked) → From q rest ≡ answered p n n s rest
   unfolding against
-  behind-none q s h rest = rw (run-end (bareRule T R C) q n h) (sym (ap (λ (b : Bool). if b then Clashes (record { first = p + 1; second = n + 1 }) (witnessOf s) else rest) (le-ltb n n (omega arith))))
+  behind-none q s h rest = rw (stretch-nil (bareRule T R C) q n h) (sym (ap (λ (b : Bool). if b then Clashes (record { first = p + 1; second = n + 1 }) (witnessOf s) else rest) (le-ltb n n (omega arith))))
 
 -- ---- all rules
 
 module _ (T : Table) (R C : List ℕ) (n : ℕ) where
   abbrev pub FromRule : ℕ → Checked
-  FromRule k = firstPair fastClash (k + 1) (run (bareRule T R C) k (n - k))
+  FromRule k = firstPair fastClash (k + 1) (stretch (bareRule T R C) k (n - k))
 
   rules-step : (k : ℕ) → k < n → FromRule k ≡ From T R C k n (k + 1) (FromRule (k + 1))
   unfolding firstPair
-  rules-step k h = rw (run-more (bareRule T R C) k n h, add-one (k + 1))
+  rules-step k h = rw (stretch-cons (bareRule T R C) k n h, add-one (k + 1))
 
   pub rules-found : (k : ℕ) (q : ℕ) (s : Spot) → k < n → ((rest : Checked) → From T R C k n (k + 1) rest ≡ answered k n q s rest) → q < n
       → FromRule k ≡ Clashes (record { first = k + 1; second = q + 1 }) (witnessOf s)
@@ -118,4 +119,4 @@ module _ (T : Table) (R C : List ℕ) (n : ℕ) where
 
   pub rules-end : (k : ℕ) → n ≤ k → FromRule k ≡ Passes
   unfolding firstPair
-  rules-end k h = rw (run-end (bareRule T R C) k n h)
+  rules-end k h = rw (stretch-nil (bareRule T R C) k n h)

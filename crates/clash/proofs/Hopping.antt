@@ -16,10 +16,11 @@ use Rattle.least.specs.Seek.{Leap}
 use Rattle.least.specs.Leap.{upwards}
 use Rattle.least.proofs.Seeking.{split, and-false-left, and-false-right}
 use Rattle.clash.specs.Fast.{Query, factor, test, leapTest, intoAny, outOfAll, passes, leapOne}
-use Rattle.clash.specs.Read.{cap, startAt, Table, relationAt, relationsIn}
+use Rattle.rules.specs.Stretch.{startAt, Table, relationAt, relationsIn}
+use Rattle.clash.specs.Read.{cap}
 use Rattle.clash.specs.Hop.{Hop, Room}
 use Rattle.clash.proofs.Leaping.{test-leap, one-leap}
-use Rattle.clash.proofs.Stepping.{run-more, run-end}
+use Rattle.rules.proofs.Stretches.{stretch-cons, stretch-nil}
 
 -- ---- a relation
 
@@ -127,7 +128,7 @@ module _ (q : Query) (T : Table) (from to x end : ℕ) where
 
   pub part-more : (j y z : ℕ) → j < to → Chase (Asks from) (Asks j) x y → z ≡ leapOne q (relationAt T j) y → Chase (Asks from) (Asks (j + 1)) x z
   part-more j y z h c e =
-      chase-more (λ u. ap (λ (l : List Relation). all (λ (r : Relation). passes q r u) l) (run-more (relationAt T) j to h)) c
+      chase-more (λ u. ap (λ (l : List Relation). all (λ (r : Relation). passes q r u) l) (stretch-cons (relationAt T) j to h)) c
       (subst (Leap (passes q (relationAt T j)) y) (sym e) (one-leap q (relationAt T j) y))
 
   pub part-stop : (j y : ℕ) → end ≤ y → Chase (Asks from) (Asks j) x y → Hop (Asks from) end x y
@@ -138,5 +139,5 @@ module _ (q : Query) (T : Table) (from to x end : ℕ) where
       record {
         low = c .low;
         none = c .none;
-        hit = λ e _. c .hit e ∙ ap (λ (l : List Relation). all (λ (r : Relation). passes q r x) l) (run-end (relationAt T) j to h);
+        hit = λ e _. c .hit e ∙ ap (λ (l : List Relation). all (λ (r : Relation). passes q r x) l) (stretch-nil (relationAt T) j to h);
       }

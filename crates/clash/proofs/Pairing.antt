@@ -7,8 +7,9 @@ use lib.ListN.{getD}
 use Rattle.rules.specs.Syntax.{Relation}
 use Rattle.clash.specs.Check.{ranks}
 use Rattle.clash.specs.Fast.{clauseRank, fastRank, withEach, bothOf}
-use Rattle.clash.specs.Read.{Table, relationsIn, startAt, clauseAt, clausesIn, ruleClauses}
-use Rattle.clash.proofs.Stepping.{run-more, run-end}
+use Rattle.rules.specs.Stretch.{Table, relationsIn, startAt, clauseAt, clausesIn}
+use Rattle.clash.specs.Read.{ruleClauses}
+use Rattle.rules.proofs.Stretches.{stretch-cons, stretch-nil}
 use Rattle.clash.proofs.FastIs.{fast-least}
 
 fast-append : (a b : List (List Relation)) → fastRank (a ++ b) ≡ min (fastRank a) (fastRank b)
@@ -22,11 +23,11 @@ module _ (T : Table) (R : List ℕ) where
     pub each-more : (x y z l : ℕ) → l < to → y ≡ clauseRank (clauseAt T R k ++ clauseAt T R l) → z ≡ min x y
         → min x (fastRank (withEach (clauseAt T R k) (clausesIn T R l to))) ≡ min z (fastRank (withEach (clauseAt T R k) (clausesIn T R (l + 1) to)))
     unfolding fastRank withEach
-    each-more x y z l h e f = rw (run-more (clauseAt T R) l to h, f, e) (omega arith)
+    each-more x y z l h e f = rw (stretch-cons (clauseAt T R) l to h, f, e) (omega arith)
 
     pub each-end : (x l : ℕ) → to ≤ l → x ≤ ranks → min x (fastRank (withEach (clauseAt T R k) (clausesIn T R l to))) ≡ x
     unfolding fastRank withEach
-    each-end x l h b = rw (run-end (clauseAt T R) l to h) (omega arith)
+    each-end x l h b = rw (stretch-nil (clauseAt T R) l to h) (omega arith)
 
   -- each of a stretch with each of another
   module _ (to start stop : ℕ) where
@@ -37,11 +38,11 @@ module _ (T : Table) (R : List ℕ) where
         → min x (fastRank (bothOf (clausesIn T R k to) (clausesIn T R start stop))) ≡ min z (fastRank (bothOf (clausesIn T R (k + 1) to) (clausesIn T R start stop)))
     unfolding bothOf
     both-more x z k h e =
-        rw (run-more (clauseAt T R) k to h, fast-append (withEach (clauseAt T R k) (clausesIn T R start stop)) (bothOf (clausesIn T R (k + 1) to) (clausesIn T R start stop)), e) (omega arith)
+        rw (stretch-cons (clauseAt T R) k to h, fast-append (withEach (clauseAt T R k) (clausesIn T R start stop)) (bothOf (clausesIn T R (k + 1) to) (clausesIn T R start stop)), e) (omega arith)
 
     pub both-end : (x k : ℕ) → to ≤ k → x ≤ ranks → min x (fastRank (bothOf (clausesIn T R k to) (clausesIn T R start stop))) ≡ x
     unfolding bothOf fastRank
-    both-end x k h b = rw (run-end (clauseAt T R) k to h) (omega arith)
+    both-end x k h b = rw (stretch-nil (clauseAt T R) k to h) (omega arith)
 
   pub joined-is : (x a b c d k l : ℕ) → a ≡ startAt R k → b ≡ min (getD R k 0) 320 → c ≡ startAt R l → d ≡ min (getD R l 0) 320
       → x ≡ clauseRank (relationsIn T a b ++ relationsIn T c d) → x ≡ clauseRank (clauseAt T R k ++ clauseAt T R l)

@@ -10,8 +10,8 @@ use Rattle.rules.specs.Syntax.{Relation}
 use Rattle.plural.specs.Meaning.{all}
 use Rattle.least.proofs.Seeking.{and-false-left}
 use Rattle.clash.specs.Fast.{factor, test, passes, queryT, ofExponent, settledE, settledF}
-use Rattle.clash.specs.Read.{Table, relationAt, relationsIn}
-use Rattle.clash.proofs.Stepping.{run-more, run-end}
+use Rattle.rules.specs.Stretch.{Table, relationAt, relationsIn}
+use Rattle.rules.proofs.Stretches.{stretch-cons, stretch-nil}
 use Rattle.clash.proofs.Windowing.{all-append}
 
 -- ---- letters
@@ -101,7 +101,7 @@ module _ (P : Relation → Bool) (T : Table) (to : ℕ) where
   Every j = all P (relationsIn T j to)
 
   one-every : (b : Bool) (j : ℕ) → j < to → b ≡ P (relationAt T j) → Every j ≡ both b (Every (j + 1))
-  one-every b j h e = ap (all P) (run-more (relationAt T) j to h) ∙ ap (λ (x : Bool). both x (Every (j + 1))) (sym e)
+  one-every b j h e = ap (all P) (stretch-cons (relationAt T) j to h) ∙ ap (λ (x : Bool). both x (Every (j + 1))) (sym e)
 
   pub every-more : (b : Bool) (j : ℕ) → j < to → b ≡ P (relationAt T j) → b ≡ true → Every j ≡ Every (j + 1)
   every-more b j h e f = one-every b j h e ∙ ap (λ (x : Bool). both x (Every (j + 1))) f
@@ -110,7 +110,7 @@ module _ (P : Relation → Bool) (T : Table) (to : ℕ) where
   every-stop b j h e f = one-every b j h e ∙ ap (λ (x : Bool). both x (Every (j + 1))) f
 
   pub every-end : (j : ℕ) → to ≤ j → Every j ≡ true
-  every-end j h = ap (all P) (run-end (relationAt T) j to h)
+  every-end j h = ap (all P) (stretch-nil (relationAt T) j to h)
 
 module _ (P : Relation → Bool) (c d : List Relation) where
   pub join-no : (a : Bool) → a ≡ all P c → a ≡ false → false ≡ all P (c ++ d)

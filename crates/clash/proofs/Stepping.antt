@@ -10,7 +10,8 @@ use borrow.Author.Tests.{lt-ltb, le-ltb, le-leb, lt-leb, eq-eqb, ne-eqb}
 use Rattle.rules.specs.Syntax.{Range}
 use Rattle.least.specs.Leap.{far, into, outOf, upwards}
 use Rattle.clash.specs.Fast.{Query, factor, intoAny, outOfAll}
-use Rattle.clash.specs.Read.{run, rangeAt, rangesIn}
+use Rattle.rules.proofs.Stretches.{stretch-cons, stretch-nil}
+use Rattle.rules.specs.Stretch.{stretch, rangeAt, rangesIn}
 
 -- ---- one range
 
@@ -53,20 +54,6 @@ module _ (m a b x r : ℕ) (e : r ≡ x % m) where
   unfolding outOf
   out-next y h k z q = rw (le-ltb (x % m) a (omega arith), le-ltb b (x % m) (omega arith), ne-eqb m 0 z, e, q, add-one b)
 
--- ---- a stretch of an array, element by element
-
-pub run-more : {A : Type 0} (g : ℕ → A) (k to : ℕ) → k < to → run g k (to - k) ≡ g k ∷ run g (k + 1) (to - (k + 1))
-unfolding run
-run-more g k to h =
-    let e : to - k ≡ suc (to - (k + 1)) = omega arith in
-    rw (e, add-one k)
-
-pub run-end : {A : Type 0} (g : ℕ → A) (k to : ℕ) → to ≤ k → run g k (to - k) ≡ []
-unfolding run
-run-end g k to h =
-    let e : to - k ≡ 0 = omega arith in
-    rw e
-
 -- ---- the ranges of a relation
 
 any-le : (m x : ℕ) (rs : List Range) → intoAny m rs x ≤ far + x
@@ -86,11 +73,11 @@ module _ (low high : List ℕ) (m x : ℕ) where
   pub any-more : (best y k to : ℕ) → k < to → y ≡ into m (getD low k 0) (getD high k 0) x
       → min best (intoAny m (rangesIn low high k to) x) ≡ min (min best y) (intoAny m (rangesIn low high (k + 1) to) x)
   unfolding intoAny
-  any-more best y k to h e = rw (run-more (rangeAt low high) k to h, e) (omega arith)
+  any-more best y k to h e = rw (stretch-cons (rangeAt low high) k to h, e) (omega arith)
 
   pub any-end : (best k to : ℕ) → to ≤ k → best ≤ far + x → min best (intoAny m (rangesIn low high k to) x) ≡ best
   unfolding intoAny
-  any-end best k to h b = rw (run-end (rangeAt low high) k to h) (omega arith)
+  any-end best k to h b = rw (stretch-nil (rangeAt low high) k to h) (omega arith)
 
   pub all-start : (rs : List Range) → max x (outOfAll m rs x) ≡ outOfAll m rs x
   all-start rs = omega (arith, all-ge m x rs)
@@ -98,11 +85,11 @@ module _ (low high : List ℕ) (m x : ℕ) where
   pub all-more : (best y k to : ℕ) → k < to → y ≡ outOf m (getD low k 0) (getD high k 0) x
       → max best (outOfAll m (rangesIn low high k to) x) ≡ max (max best y) (outOfAll m (rangesIn low high (k + 1) to) x)
   unfolding outOfAll
-  all-more best y k to h e = rw (run-more (rangeAt low high) k to h, e) (omega arith)
+  all-more best y k to h e = rw (stretch-cons (rangeAt low high) k to h, e) (omega arith)
 
   pub all-end : (best k to : ℕ) → to ≤ k → x ≤ best → max best (outOfAll m (rangesIn low high k to) x) ≡ best
   unfolding outOfAll
-  all-end best k to h b = rw (run-end (rangeAt low high) k to h) (omega arith)
+  all-end best k to h b = rw (stretch-nil (rangeAt low high) k to h) (omega arith)
 
 -- ---- a multiple
 

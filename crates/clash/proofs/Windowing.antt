@@ -14,21 +14,22 @@ use Rattle.plural.specs.Meaning.{all}
 use Rattle.least.specs.Leap.{windowEnd}
 use Rattle.least.proofs.Seeking.{and-false-left, and-false-right, and-true}
 use Rattle.clash.specs.Fast.{Query, factor, asked, top, reach, leastPeriod, largest, period, divides, repeats, searchEnd}
-use Rattle.clash.specs.Read.{run, rangeAt, topIn, startAt, Table, relationAt, relationsIn}
-use Rattle.clash.proofs.Stepping.{run-more, run-end}
+use Rattle.rules.specs.Stretch.{stretch, rangeAt, startAt, Table, relationAt, relationsIn}
+use Rattle.clash.specs.Read.{topIn}
+use Rattle.rules.proofs.Stretches.{stretch-cons, stretch-nil}
 
 -- ---- the upper ends
 
 pub top-more : (high : List ℕ) (best y k to : ℕ) → k < to → y ≡ getD high k 0 + 1 → max best (topIn high k to) ≡ max (max best y) (topIn high (k + 1) to)
 unfolding top
-top-more high best y k to h e = rw (run-more (rangeAt high high) k to h, e, add-one (getD high k 0)) (omega arith)
+top-more high best y k to h e = rw (stretch-cons (rangeAt high high) k to h, e, add-one (getD high k 0)) (omega arith)
 
 pub top-end : (high : List ℕ) (best k to : ℕ) → to ≤ k → max best (topIn high k to) ≡ best
 unfolding top
-top-end high best k to h = rw (run-end (rangeAt high high) k to h) (omega arith)
+top-end high best k to h = rw (stretch-nil (rangeAt high high) k to h) (omega arith)
 
-top-low : (low high : List ℕ) (k n : ℕ) → top (run (rangeAt high high) k n) ≡ top (run (rangeAt low high) k n)
-unfolding top run
+top-low : (low high : List ℕ) (k n : ℕ) → top (stretch (rangeAt high high) k n) ≡ top (stretch (rangeAt low high) k n)
+unfolding top stretch
 top-low low high k zero = refl
 top-low low high k (suc n) = ap (max (suc (getD high k 0))) (top-low low high (suc k) n)
 
@@ -77,21 +78,21 @@ module _ (q : Query) (T : Table) (to : ℕ) where
   pub reach-more : (b y j : ℕ) → j < to → y ≡ (if both (asked q (relationAt T j)) (eqb (getD (T .modulus) j 0) 0) then top (relationAt T j .ranges) else 0)
       → max b (reach q (relationsIn T j to)) ≡ max (max b y) (reach q (relationsIn T (j + 1) to))
   unfolding reach
-  reach-more b y j h e = rw (run-more (relationAt T) j to h, e) (omega arith)
+  reach-more b y j h e = rw (stretch-cons (relationAt T) j to h, e) (omega arith)
 
   pub reach-end : (b j : ℕ) → to ≤ j → max b (reach q (relationsIn T j to)) ≡ b
   unfolding reach
-  reach-end b j h = rw (run-end (relationAt T) j to h) (omega arith)
+  reach-end b j h = rw (stretch-nil (relationAt T) j to h) (omega arith)
 
   pub largest-more : (b y j : ℕ) → j < to → y ≡ (if eqb (factor q (getD (T .operand) j 0)) 0 then 0 else getD (T .modulus) j 0)
       → max b (largest q (relationsIn T j to)) ≡ max (max b y) (largest q (relationsIn T (j + 1) to))
   unfolding largest
   largest-more b y j h e =
-      rw (run-more (relationAt T) j to h, swap (eqb (factor q (getD (T .operand) j 0)) 0) (getD (T .modulus) j 0), ← e) (omega arith)
+      rw (stretch-cons (relationAt T) j to h, swap (eqb (factor q (getD (T .operand) j 0)) 0) (getD (T .modulus) j 0), ← e) (omega arith)
 
   pub largest-end : (b j : ℕ) → to ≤ j → max b (largest q (relationsIn T j to)) ≡ b
   unfolding largest
-  largest-end b j h = rw (run-end (relationAt T) j to h) (omega arith)
+  largest-end b j h = rw (stretch-nil (relationAt T) j to h) (omega arith)
 
   module _ (p : ℕ) where
     abbrev pub Divides : ℕ → Bool
@@ -103,7 +104,7 @@ module _ (q : Query) (T : Table) (to : ℕ) where
 
     one-divides : (j m : ℕ) → j < to → m ≡ (if eqb (factor q (getD (T .operand) j 0)) 0 then 0 else getD (T .modulus) j 0) → Divides j ≡ both (divides m p) (Divides (j + 1))
     one-divides j m h e =
-        ap (λ (l : List Relation). all (λ (r : Relation). if asked q r then divides (r .modulus) p else true) l) (run-more (relationAt T) j to h)
+        ap (λ (l : List Relation). all (λ (r : Relation). if asked q r then divides (r .modulus) p else true) l) (stretch-cons (relationAt T) j to h)
         ∙ ap (λ (b : Bool). both b (Divides (j + 1)))
         (by-factor (eqb (factor q (getD (T .operand) j 0)) 0) (getD (T .modulus) j 0) ∙ ap (λ (x : ℕ). divides x p) (sym e))
 
@@ -114,7 +115,7 @@ module _ (q : Query) (T : Table) (to : ℕ) where
     divides-stop d j m h e f g = one-divides j m h e ∙ ap (λ (b : Bool). both b (Divides (j + 1))) (sym f ∙ g)
 
     pub divides-end : (j : ℕ) → to ≤ j → Divides j ≡ true
-    divides-end j h = ap (λ (l : List Relation). all (λ (r : Relation). if asked q r then divides (r .modulus) p else true) l) (run-end (relationAt T) j to h)
+    divides-end j h = ap (λ (l : List Relation). all (λ (r : Relation). if asked q r then divides (r .modulus) p else true) l) (stretch-nil (relationAt T) j to h)
 
 -- ---- two stretches
 

@@ -6,7 +6,8 @@ ghost use Prim.Native.Nat.{ℕ, suc, _+_, _-_, _≤_, _<_};
 ghost use Rattle.number.specs.Limits.{maxExponent};
 ghost use Rattle.clash.specs.Check.{against, firstPair};
 ghost use Rattle.clash.specs.Fast.{fastClash};
-ghost use Rattle.clash.specs.Read.{run, table, bareRule};
+ghost use Rattle.rules.specs.Stretch.{stretch, table};
+ghost use Rattle.clash.specs.Read.{bareRule};
 ghost use Rattle.clash.specs.Spots.{Proper, witnessOf, answered};
 use crate::Checked;
 use crate::Clash;
@@ -33,7 +34,7 @@ pub fn later_clash<'a>(
     n: usize,
 ) -> Clash
     requires { ⌜ (p < n) × (n ≤ 6) ⌝ }
-    ensures { λ r. ⌜ ((rest : Checked) → against fastClash (p + 1) (p + 1 + 1) (bareRule (table (now (operand .entry)) (now (modulus .entry)) (now (negated .entry)) (now (ranges .entry)) (now (low .entry)) (now (high .entry))) (now (relations .entry)) (now (clauses .entry)) p) (run (bareRule (table (now (operand .entry)) (now (modulus .entry)) (now (negated .entry)) (now (ranges .entry)) (now (low .entry)) (now (high .entry))) (now (relations .entry)) (now (clauses .entry))) (p + 1) (n - (p + 1))) rest ≡ answered p n (r .at) (r .spot) rest) × (r .at < n → r .spot .e ≤ maxExponent) × Proper (r .spot) ⌝ }
+    ensures { λ r. ⌜ ((rest : Checked) → against fastClash (p + 1) (p + 1 + 1) (bareRule (table (now (operand .entry)) (now (modulus .entry)) (now (negated .entry)) (now (ranges .entry)) (now (low .entry)) (now (high .entry))) (now (relations .entry)) (now (clauses .entry)) p) (stretch (bareRule (table (now (operand .entry)) (now (modulus .entry)) (now (negated .entry)) (now (ranges .entry)) (now (low .entry)) (now (high .entry))) (now (relations .entry)) (now (clauses .entry))) (p + 1) (n - (p + 1))) rest ≡ answered p n (r .at) (r .spot) rest) × (r .at < n → r .spot .e ≤ maxExponent) × Proper (r .spot) ⌝ }
 {
     let mut q = p + 1;
     while q < n {
@@ -91,7 +92,7 @@ pub fn first_pair<'a>(
     n: usize,
 ) -> Checked
     requires { ⌜ n ≤ 6 ⌝ }
-    ensures { λ r. ⌜ r ≡ firstPair fastClash (0 + 1) (run (bareRule (table (now (operand .entry)) (now (modulus .entry)) (now (negated .entry)) (now (ranges .entry)) (now (low .entry)) (now (high .entry))) (now (relations .entry)) (now (clauses .entry))) 0 (n - 0)) ⌝ }
+    ensures { λ r. ⌜ r ≡ firstPair fastClash (0 + 1) (stretch (bareRule (table (now (operand .entry)) (now (modulus .entry)) (now (negated .entry)) (now (ranges .entry)) (now (low .entry)) (now (high .entry))) (now (relations .entry)) (now (clauses .entry))) 0 (n - 0)) ⌝ }
 {
     let mut k: usize = 0;
     while k < n {

@@ -5,7 +5,8 @@ ghost use Prim.Native.Nat.{_+_, _-_, _*_, _/_, _%_, _≤_, _<_, min, max};
 ghost use Rattle.decimal.specs.Choice.{if_then_else_};
 ghost use Rattle.least.specs.Leap.{into, outOf, upwards};
 ghost use Rattle.clash.specs.Fast.{factor, intoAny, outOfAll};
-ghost use Rattle.clash.specs.Read.{rangesIn, cap};
+ghost use Rattle.rules.specs.Stretch.{rangesIn};
+ghost use Rattle.clash.specs.Read.{cap};
 use crate::Query;
 
 pub const FAR: u64 = 4_000_000_000_000_000_000;

@@ -6,7 +6,8 @@ ghost use Prim.Native.Nat.{ℕ, _≤_, _<_};
 ghost use Rattle.plural.specs.Meaning.{all};
 ghost use Rattle.rules.specs.Syntax.{Relation};
 ghost use Rattle.clash.specs.Fast.{passes, queryT, ofExponent, settledE, settledF};
-ghost use Rattle.clash.specs.Read.{cap, table, relationAt, relationsIn, joinedIn};
+ghost use Rattle.rules.specs.Stretch.{table, relationAt, relationsIn};
+ghost use Rattle.clash.specs.Read.{cap, joinedIn};
 use crate::Span;
 use crate::relation;
 

@@ -1,5 +1,6 @@
 -- `clash::clause::clause_spot` takes the earlier kind at the least exponent.
-use Rattle.clash.specs.Read.{table, joinedIn}
+use Rattle.rules.specs.Stretch.{table}
+use Rattle.clash.specs.Read.{joinedIn}
 use Rattle.clash.proofs.Spotting.{clause-none, clause-some}
 use borrow.Author.Needs.{needs}
 use Rattle.clash.proofs.clause.clause_spot.Statement.{statement}

@@ -1,5 +1,6 @@
 -- `clash::clause::integer_of` is a search with the factor 1 for i, and for n where f is 0.
-use Rattle.clash.specs.Read.{table, joinedIn}
+use Rattle.rules.specs.Stretch.{table}
+use Rattle.clash.specs.Read.{joinedIn}
 use Rattle.clash.proofs.Spotting.{low-le, room-i, integer-is}
 use borrow.Author.Needs.{needs}
 use Rattle.clash.proofs.clause.integer_of.Statement.{statement}

@@ -1,5 +1,6 @@
 -- `clash::clause::kind_spot`: no f, no i, or both.
-use Rattle.clash.specs.Read.{table, joinedIn}
+use Rattle.rules.specs.Stretch.{table}
+use Rattle.clash.specs.Read.{joinedIn}
 use Rattle.clash.proofs.Spotting.{kind-no-fraction, kind-no-integer, kind-found, kind-proper}
 use borrow.Author.Needs.{needs}
 use Rattle.clash.proofs.clause.kind_spot.Statement.{statement}

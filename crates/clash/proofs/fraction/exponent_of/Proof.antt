@@ -5,7 +5,8 @@ use mathlib.Core.Path.{refl}
 use Rattle.number.specs.Limits.{maxExponent}
 use Rattle.plural.specs.Meaning.{all}
 use Rattle.clash.specs.Fast.{settledE}
-use Rattle.clash.specs.Read.{table, joinedIn}
+use Rattle.rules.specs.Stretch.{table}
+use Rattle.clash.specs.Read.{joinedIn}
 use Rattle.clash.proofs.Placing.{Before, before-start, before-more, seek-at, seek-none, exponent-is}
 use borrow.Author.Needs.{needs}
 use Rattle.clash.proofs.fraction.exponent_of.Statement.{statement}

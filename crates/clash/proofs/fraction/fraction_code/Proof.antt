@@ -1,5 +1,6 @@
 -- `clash::fraction::fraction_code` is one or the other.
-use Rattle.clash.specs.Read.{table, joinedIn}
+use Rattle.rules.specs.Stretch.{table}
+use Rattle.clash.specs.Read.{joinedIn}
 use Rattle.clash.proofs.Placing.{code-whole, code-part}
 use borrow.Author.Needs.{needs}
 use Rattle.clash.proofs.fraction.fraction_code.Statement.{statement}

@@ -4,7 +4,8 @@ use Prim.Native.Nat.{_≤_, _-_}
 use mathlib.Core.Path.{_≡_}
 use Rattle.number.specs.Limits.{maxPlaces}
 use Rattle.clash.specs.Fast.{partCode}
-use Rattle.clash.specs.Read.{table, joinedIn}
+use Rattle.rules.specs.Stretch.{table}
+use Rattle.clash.specs.Read.{joinedIn}
 use Rattle.clash.proofs.Placing.{part-start, part-more, part-stop, part-end}
 use borrow.Author.Needs.{needs}
 use Rattle.clash.proofs.fraction.part_code.Statement.{statement}

@@ -1,6 +1,7 @@
 -- `clash::fraction::tail_code`: no v, no v with room for t, or the least v with the least t.
 use native.Mathlib.Omega.{arith}
-use Rattle.clash.specs.Read.{table, joinedIn}
+use Rattle.rules.specs.Stretch.{table}
+use Rattle.clash.specs.Read.{joinedIn}
 use Rattle.clash.proofs.Placing.{tail-unsettled, tail-none, tail-some, tail-room}
 use borrow.Author.Needs.{needs}
 use Rattle.clash.proofs.fraction.tail_code.Statement.{statement}

@@ -1,6 +1,7 @@
 -- `clash::fraction::tail_of` is a search with the factor 10 ^ k for f.
 use native.Mathlib.Omega.{arith}
-use Rattle.clash.specs.Read.{table, joinedIn}
+use Rattle.rules.specs.Stretch.{table}
+use Rattle.clash.specs.Read.{joinedIn}
 use Rattle.clash.proofs.Placing.{room-t, tail-is}
 use borrow.Author.Needs.{needs}
 use Rattle.clash.proofs.fraction.tail_of.Statement.{statement}

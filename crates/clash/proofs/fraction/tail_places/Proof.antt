@@ -8,7 +8,8 @@ use Rattle.decimal.specs.Choice.{both}
 use lib.Dec.{ltb}
 use Prim.Native.Nat.{_^_}
 use Rattle.clash.specs.Fast.{settledF}
-use Rattle.clash.specs.Read.{table, joinedIn}
+use Rattle.rules.specs.Stretch.{table}
+use Rattle.clash.specs.Read.{joinedIn}
 use Rattle.clash.proofs.Placing.{Before, before-start, before-more, seek-at, seek-none, places-is}
 use borrow.Author.Needs.{needs}
 use Rattle.clash.proofs.fraction.tail_places.Statement.{statement}

@@ -1,7 +1,8 @@
 -- `clash::fraction::whole_code`: there is such a v only where f may be 0.
 use native.Mathlib.Omega.{arith}
 use borrow.Author.Tests.{not-true, not-false}
-use Rattle.clash.specs.Read.{table, joinedIn}
+use Rattle.rules.specs.Stretch.{table}
+use Rattle.clash.specs.Read.{joinedIn}
 use Rattle.clash.proofs.Placing.{whole-none, whole-some}
 use borrow.Author.Needs.{needs}
 use Rattle.clash.proofs.fraction.whole_code.Statement.{statement}

@@ -5,7 +5,8 @@ use mathlib.Core.Path.{refl}
 use Rattle.number.specs.Limits.{maxPlaces}
 use Rattle.plural.specs.Meaning.{all}
 use Rattle.clash.specs.Fast.{settledF}
-use Rattle.clash.specs.Read.{table, joinedIn}
+use Rattle.rules.specs.Stretch.{table}
+use Rattle.clash.specs.Read.{joinedIn}
 use Rattle.clash.proofs.Placing.{Before, before-start, before-more, seek-at, seek-none}
 use borrow.Author.Needs.{needs}
 use Rattle.clash.proofs.fraction.whole_places.Statement.{statement}

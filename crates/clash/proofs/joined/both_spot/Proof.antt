@@ -3,7 +3,7 @@ use native.Mathlib.Omega.{arith}
 use Prim.Native.Nat.{_-_, min}
 use mathlib.Core.Path.{_≡_, sym, _∙_}
 use Rattle.clash.specs.Fast.{fastRank, bothOf}
-use Rattle.clash.specs.Read.{table, clausesIn}
+use Rattle.rules.specs.Stretch.{table, clausesIn}
 use Rattle.clash.specs.Spots.{spotRank, Proper}
 use Rattle.clash.proofs.Pairing.{both-start, both-more, both-end}
 use borrow.Author.Needs.{needs}

@@ -1,6 +1,6 @@
 -- `clash::joined::joined_spot` is that of the two stretches.
 use native.Mathlib.Omega.{arith}
-use Rattle.clash.specs.Read.{table}
+use Rattle.rules.specs.Stretch.{table}
 use Rattle.clash.proofs.Pairing.{joined-is}
 use borrow.Author.Needs.{needs}
 use Rattle.clash.proofs.joined.joined_spot.Statement.{statement}

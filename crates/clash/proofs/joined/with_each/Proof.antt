@@ -3,7 +3,7 @@ use native.Mathlib.Omega.{arith}
 use Prim.Native.Nat.{_-_, min}
 use mathlib.Core.Path.{_≡_, refl, sym, _∙_}
 use Rattle.clash.specs.Fast.{fastRank, withEach}
-use Rattle.clash.specs.Read.{table, clauseAt, clausesIn}
+use Rattle.rules.specs.Stretch.{table, clauseAt, clausesIn}
 use Rattle.clash.specs.Spots.{spotRank, Proper}
 use Rattle.clash.proofs.Pairing.{each-more, each-end}
 use borrow.Author.Needs.{needs}

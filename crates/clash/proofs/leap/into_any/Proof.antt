@@ -4,7 +4,7 @@ use Prim.Native.Nat.{_≤_, _+_, _-_, min}
 use mathlib.Core.Path.{_≡_, sym, _∙_}
 use Rattle.least.specs.Leap.{far}
 use Rattle.clash.specs.Fast.{intoAny}
-use Rattle.clash.specs.Read.{rangesIn}
+use Rattle.rules.specs.Stretch.{rangesIn}
 use Rattle.clash.proofs.Stepping.{any-start, any-more, any-end}
 use borrow.Author.Needs.{needs}
 use Rattle.clash.proofs.leap.into_any.Statement.{statement}

@@ -3,7 +3,7 @@ use native.Mathlib.Omega.{arith}
 use Prim.Native.Nat.{_≤_, _-_, max}
 use mathlib.Core.Path.{_≡_, sym, _∙_}
 use Rattle.clash.specs.Fast.{outOfAll}
-use Rattle.clash.specs.Read.{rangesIn}
+use Rattle.rules.specs.Stretch.{rangesIn}
 use Rattle.clash.proofs.Stepping.{all-start, all-more, all-end}
 use borrow.Author.Needs.{needs}
 use Rattle.clash.proofs.leap.out_of_all.Statement.{statement}

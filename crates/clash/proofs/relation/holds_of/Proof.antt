@@ -1,5 +1,5 @@
 -- `clash::relation::holds_of`: a relation holds exactly where its leap stays.
-use Rattle.clash.specs.Read.{table, relationAt}
+use Rattle.rules.specs.Stretch.{table, relationAt}
 use Rattle.clash.proofs.Hopping.{stays}
 use borrow.Author.Needs.{needs}
 use Rattle.clash.proofs.relation.holds_of.Statement.{statement}

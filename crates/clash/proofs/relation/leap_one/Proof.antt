@@ -1,7 +1,7 @@
 -- `clash::relation::leap_one` leaps by the operand's factor, and stays where it is no part of the search.
 use native.Mathlib.Omega.{arith}
 use lib.ListN.{getD}
-use Rattle.clash.specs.Read.{table, relationAt}
+use Rattle.rules.specs.Stretch.{table, relationAt}
 use Rattle.clash.proofs.Hopping.{one-not, one-is, room-factor}
 use borrow.Author.Needs.{needs}
 use Rattle.clash.proofs.relation.leap_one.Statement.{statement}

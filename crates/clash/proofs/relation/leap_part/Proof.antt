@@ -2,7 +2,7 @@
 -- what is left to ask is what the relations left ask.
 use native.Mathlib.Omega.{arith}
 use Prim.Native.Nat.{_-_}
-use Rattle.clash.specs.Read.{table}
+use Rattle.rules.specs.Stretch.{table}
 use Rattle.clash.proofs.Hopping.{Chase, Asks, chase-start, part-more, part-stop, part-end, room-le}
 use borrow.Author.Needs.{needs}
 use Rattle.clash.proofs.relation.leap_part.Statement.{statement}

@@ -3,7 +3,7 @@ use mathlib.Core.Path.{ap₂, _∙_}
 use Prim.Native.Nat.{ℕ}
 use lib.ListN.{getD}
 use Rattle.clash.specs.Fast.{intoAny, outOfAll}
-use Rattle.clash.specs.Read.{table, relationAt, rangesIn}
+use Rattle.rules.specs.Stretch.{table, relationAt, rangesIn}
 use Rattle.clash.proofs.Hopping.{leap-not, leap-is}
 use borrow.Author.Needs.{needs}
 use Rattle.clash.proofs.relation.leap_relation.Statement.{statement}

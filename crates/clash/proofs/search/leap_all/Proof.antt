@@ -1,5 +1,5 @@
 -- `clash::search::leap_all` goes on from the last digit's leap to that of each stretch.
-use Rattle.clash.specs.Read.{table, relationsIn}
+use Rattle.rules.specs.Stretch.{table, relationsIn}
 use Rattle.clash.proofs.Searching.{hop-all}
 use borrow.Author.Needs.{needs}
 use Rattle.clash.proofs.search.leap_all.Statement.{statement}

@@ -4,7 +4,8 @@ use Prim.Native.Nat.{ℕ, _≤_, _<_, _-_}
 use mathlib.Core.Path.{_≡_}
 use mathlib.Core.Bool.{false}
 use Rattle.clash.specs.Fast.{passesAll}
-use Rattle.clash.specs.Read.{table, joinedIn}
+use Rattle.rules.specs.Stretch.{table}
+use Rattle.clash.specs.Read.{joinedIn}
 use Rattle.clash.proofs.Hopping.{room-le}
 use Rattle.clash.proofs.Sieving.{search-none}
 use Rattle.clash.proofs.Searching.{search-found, search-next, search-ended, hop-less, end-le}

@@ -1,5 +1,5 @@
 -- `clash::settle::settled_e_of`: only relations of the exponent are settled by it.
-use Rattle.clash.specs.Read.{table, relationAt}
+use Rattle.rules.specs.Stretch.{table, relationAt}
 use Rattle.clash.proofs.Settling.{at-exponent, no-exponent}
 use borrow.Author.Needs.{needs}
 use Rattle.clash.proofs.settle.settled_e_of.Statement.{statement}

@@ -1,5 +1,5 @@
 -- `clash::settle::settled_f_of`: n, v and w are settled, each a way.
-use Rattle.clash.specs.Read.{table, relationAt}
+use Rattle.rules.specs.Stretch.{table, relationAt}
 use Rattle.clash.proofs.Settling.{n-whole, n-part, at-v, at-w, at-other}
 use borrow.Author.Needs.{needs}
 use Rattle.clash.proofs.settle.settled_f_of.Statement.{statement}

@@ -2,7 +2,7 @@
 use borrow.Author.Tests.{not-true, not-false}
 use Rattle.rules.specs.Syntax.{Relation}
 use Rattle.clash.specs.Fast.{passes, queryT}
-use Rattle.clash.specs.Read.{table, relationsIn}
+use Rattle.rules.specs.Stretch.{table, relationsIn}
 use Rattle.clash.proofs.Settling.{join-no, join-yes}
 use borrow.Author.Needs.{needs}
 use Rattle.clash.proofs.settle.zero_allowed.Statement.{statement}

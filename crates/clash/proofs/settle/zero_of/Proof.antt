@@ -1,5 +1,5 @@
 -- `clash::settle::zero_of`: only relations of f and t say whether f can be 0.
-use Rattle.clash.specs.Read.{table, relationAt}
+use Rattle.rules.specs.Stretch.{table, relationAt}
 use Rattle.clash.proofs.Settling.{zero-f, zero-t, zero-other}
 use borrow.Author.Needs.{needs}
 use Rattle.clash.proofs.settle.zero_of.Statement.{statement}

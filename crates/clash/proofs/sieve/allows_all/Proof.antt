@@ -1,7 +1,7 @@
 -- `clash::sieve::allows_all` asks the one stretch, then the other.
 use borrow.Author.Tests.{not-true, not-false}
 use Rattle.clash.specs.Sieve.{allows}
-use Rattle.clash.specs.Read.{table, relationsIn}
+use Rattle.rules.specs.Stretch.{table, relationsIn}
 use Rattle.clash.proofs.Settling.{join-no, join-yes}
 use Rattle.clash.proofs.sieve.allows_all.Statement.{statement}
 use Rattle.clash.proofs.sieve.allows_all.Tie as tie

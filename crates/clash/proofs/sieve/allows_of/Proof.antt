@@ -1,7 +1,7 @@
 -- `clash::sieve::allows_of`: only a relation that is asked and whose modulus divides m is tried.
 use native.Mathlib.Omega.{arith}
 use lib.ListN.{getD}
-use Rattle.clash.specs.Read.{table, relationAt}
+use Rattle.rules.specs.Stretch.{table, relationAt}
 use Rattle.clash.proofs.Hopping.{room-le, room-factor}
 use Rattle.clash.proofs.Sieving.{allows-unasked, allows-whole, allows-other, allows-test}
 use borrow.Author.Needs.{needs}

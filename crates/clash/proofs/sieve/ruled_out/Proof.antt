@@ -1,7 +1,8 @@
 -- `clash::sieve::ruled_out`: where no remainder is left, no number passes.
 use mathlib.Core.Path.{sym, _∙_}
 use borrow.Author.Tests.{not-true}
-use Rattle.clash.specs.Read.{table, joinedIn}
+use Rattle.rules.specs.Stretch.{table}
+use Rattle.clash.specs.Read.{joinedIn}
 use Rattle.clash.proofs.Hopping.{room-le}
 use Rattle.clash.proofs.Sieving.{never-true, none-left}
 use borrow.Author.Needs.{needs}

@@ -3,7 +3,8 @@ use Prim.Native.Nat.{ℕ, _-_}
 use mathlib.Core.Path.{refl}
 use Rattle.plural.specs.Meaning.{all}
 use Rattle.clash.specs.Sieve.{allows}
-use Rattle.clash.specs.Read.{table, joinedIn}
+use Rattle.rules.specs.Stretch.{table}
+use Rattle.clash.specs.Read.{joinedIn}
 use Rattle.clash.proofs.Placing.{Before, before-start, before-more}
 use Rattle.clash.proofs.Sieving.{left-some, left-none}
 use borrow.Author.Needs.{needs}

@@ -2,7 +2,7 @@
 use Prim.Native.Nat.{_-_, max}
 use mathlib.Core.Path.{_≡_, refl, sym, _∙_}
 use Rattle.clash.specs.Fast.{reach, largest}
-use Rattle.clash.specs.Read.{table, relationsIn}
+use Rattle.rules.specs.Stretch.{table, relationsIn}
 use Rattle.clash.proofs.Windowing.{reach-more, reach-end, largest-more, largest-end}
 use borrow.Author.Needs.{needs}
 use Rattle.clash.proofs.window.bounds_part.Statement.{statement}

@@ -1,5 +1,5 @@
 -- `clash::window::reach_of` gives 0 for a relation that is not asked or has a modulus.
-use Rattle.clash.specs.Read.{table}
+use Rattle.rules.specs.Stretch.{table}
 use Rattle.clash.proofs.Windowing.{reach-unasked, reach-modulus, reach-top}
 use borrow.Author.Needs.{needs}
 use Rattle.clash.proofs.window.reach_of.Statement.{statement}

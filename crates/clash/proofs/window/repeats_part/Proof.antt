@@ -2,7 +2,7 @@
 use borrow.Author.Tests.{not-true, not-false}
 use Prim.Native.Nat.{_-_}
 use mathlib.Core.Path.{_≡_, refl, sym, _∙_}
-use Rattle.clash.specs.Read.{table}
+use Rattle.rules.specs.Stretch.{table}
 use Rattle.clash.proofs.Windowing.{Divides, divides-more, divides-stop, divides-end}
 use borrow.Author.Needs.{needs}
 use Rattle.clash.proofs.window.repeats_part.Statement.{statement}

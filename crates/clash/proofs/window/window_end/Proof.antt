@@ -1,6 +1,6 @@
 -- `clash::window::window_end` cuts the search where the moduli all divide the largest.
 use borrow.Author.Tests.{not-true, not-false}
-use Rattle.clash.specs.Read.{table, relationsIn}
+use Rattle.rules.specs.Stretch.{table, relationsIn}
 use Rattle.clash.proofs.Windowing.{end-own, end-first, end-second, end-cut}
 use borrow.Author.Needs.{needs}
 use Rattle.clash.proofs.window.window_end.Statement.{statement}
