@@ -1,0 +1,120 @@
+-- What is read of symbols, pattern and number is within the bounds of rounding and of an area's places.
+use mathlib.Core.Path.{_≡_, refl, sym, ap, subst, _∙_}
+use mathlib.Core.Bool.{Bool, true, false}
+use mathlib.Core.List.{List, [], _∷_, _++_}
+use Prim.Native.Nat.{ℕ, _+_, _*_, _-_, _^_, _≤_, _<_, min}
+use native.Mathlib.Omega.{arith}
+use borrow.Author.Tests.{ltb-false, lt-ltb, le-ltb}
+use lib.Dec.{ltb}
+use lib.ListN.{length, drop}
+use Rattle.decimal.specs.Choice.{if_then_else_}
+use Rattle.decimal.specs.Digits.{figures}
+use Rattle.decimal.proofs.Choices.{tested, choice}
+use Rattle.decimal.proofs.Values.{power-mono}
+use Rattle.decimal.proofs.Figured.{length-figures}
+use Rattle.answer.specs.declared.Refusal.the-variants.{AreaTooShort}
+use Rattle.area.specs.Area.{Wrote, most}
+use Rattle.area.proofs.Pieces.{front}
+use Rattle.symbols.specs.declared.Symbol.{Symbol}
+use Rattle.symbols.specs.declared.Judged.the-variants.{Good}
+use Rattle.symbols.specs.Entries.{readSymbols, symbolIn, standardRecord}
+use Rattle.symbols_grammar.proofs.Records.{found-fits}
+use Rattle.number.specs.declared.Number.{Number}
+use Rattle.number.specs.declared.Reading.the-variants.{Is as NumberIs}
+use Rattle.number.specs.Reading.{readNumber}
+use Rattle.number.specs.Admitted.{Admitted}
+use Rattle.number.proofs.Admissible.{admitted}
+use Rattle.pattern.specs.declared.Half.{Half}
+use Rattle.pattern.specs.declared.Pattern.{Pattern}
+use Rattle.pattern.specs.declared.PatternReading.{PatternReading}
+use Rattle.pattern.specs.declared.PatternReading.the-variants.{Is as PatternIs}
+use Rattle.pattern.specs.Limits.{maxBytes}
+use Rattle.pattern.specs.Reading.{factorOf, halfOf, patternOf, readPattern}
+use Rattle.pattern_grammar.specs.Bounds.{Bounds}
+use Rattle.pattern_grammar.specs.Verdict.{negativeOf, Verdict, too-long, not-utf8, reserved, not-a-pattern, many-places, large-step, many-marks, other-marks, read}
+use Rattle.pattern_grammar.proofs.Verdicts.{verdict-found, not-read}
+use Rattle.pattern_grammar.proofs.Bounds.{read-bounds}
+use Rattle.rounding.specs.Nearest.{unitsOf}
+use Rattle.rounding.specs.Limits.{within, width, rounded}
+use Rattle.rounding.proofs.Arithmetic.{Fits, fits-within}
+use Rattle.layout.specs.Text.{affixesOf, digitsOf, textOf}
+use Rattle.print.specs.declared.Printed.the-variants.{Text, Refused}
+use Rattle.print.specs.Outcome.{text, answerOf, areaOf}
+use Rattle.print.proofs.Sizes.{body-four, text-size}
+
+-- "`%` multiplies by 100, `‰` by 1000"
+factor-most : (h : Half) → factorOf h ≤ 1000
+factor-most h =
+    choice (λ (n : ℕ). n ≤ 1000) (ltb 0 (h .percents)) (λ k. omega arith)
+    (λ k. choice (λ (n : ℕ). n ≤ 1000) (ltb 0 (h .permilles)) (λ l. omega arith) (λ l. omega arith))
+
+verdict-factor : (s : List ℕ) {r : PatternReading} → Verdict s r → (p : Pattern) → r ≡ PatternIs p → p .factor ≤ 1000
+verdict-factor s (too-long h) p e = not-read _ p e
+verdict-factor s (not-utf8 h u) p e = not-read _ p e
+verdict-factor s (reserved h u a) p e = not-read _ p e
+verdict-factor s (not-a-pattern q f) p e = not-read _ p e
+verdict-factor s (many-places q w m) p e = not-read _ p e
+verdict-factor s (large-step q w m o) p e = not-read _ p e
+verdict-factor s (many-marks q w m o k) p e = not-read _ p e
+verdict-factor s (other-marks q w m o k d) p e = not-read _ p e
+verdict-factor s (read q w m o k d) p e =
+    let same : patternOf (halfOf s) (negativeOf s) ≡ p = cc in
+    subst (λ (x : Pattern). x .factor ≤ 1000) same (factor-most (halfOf s))
+
+read-short : (s : List ℕ) (p : Pattern) → readPattern s ≡ PatternIs p → length s ≤ maxBytes
+read-short s p e = tested (ltb maxBytes (length s)) (λ k. not-read _ p (rw k at e)) (λ k. ltb-false maxBytes (length s) k)
+
+-- what rounding asks
+pub ready-within : (s t : List ℕ) (p : Pattern) (n : Number) → readPattern s ≡ PatternIs p → readNumber t ≡ NumberIs n
+    → within (p .step) (p .factor) (p .most) (n .i) (n .v .0) (n .f .0) ≡ true
+ready-within s t p n ep en =
+    let b = read-bounds s p ep in
+    let a = admitted t n en in
+    fits-within (p .step) (p .factor) (p .most) (n .i) (n .v .0) (n .f .0)
+    (record {
+      step-least = b .step-least;
+      step-most = b .step-most;
+      factor-most = verdict-factor s (verdict-found s) p ep;
+      most-most = b .most-most;
+      integer-most = omega (arith, a .whole);
+      places-most = a .places;
+      fraction-most = omega (arith, a .fraction, power-mono {i = n .v .0} {j = 9} (a .places));
+    })
+
+-- what the area's places ask
+pub ready-size : (house s : List ℕ) (p : Pattern) (n : Number) → readSymbols house ≡ Good → readPattern s ≡ PatternIs p
+    → length (textOf (symbolIn house standardRecord) s p n) ≤ most
+ready-size house s p n eh ep =
+    let d = digitsOf p n in
+    omega (
+      arith,
+      text-size (symbolIn house standardRecord) s p (affixesOf p (n .negative)) d (λ y. body-four (symbolIn house standardRecord y) (found-fits house y eh)),
+      read-short s p ep,
+      length-figures width (unitsOf (p .step) (p .factor) (p .most) (n .i) (n .v .0) (n .f .0)),
+    )
+
+-- ---- the area, once the bytes needed are known
+
+pub needed : (t o o′ : List ℕ) (need : ℕ) → length t ≤ most → Wrote o 0 t o′ need → need ≡ length t
+needed t o o′ need h w = omega (arith, w .next)
+
+pub short-answer : (t area : List ℕ) (need : ℕ) → need ≡ length t → length area < need
+    → (Refused (AreaTooShort need) ≡ answerOf (text t) area) × (area ≡ areaOf (text t) area)
+short-answer t area need e h =
+    let k : ltb (length area) (length t) ≡ true = lt-ltb (length area) (length t) (omega arith) in
+    (rw (k, e), rw k)
+
+pub full-answer : (t area area′ : List ℕ) (need end : ℕ) → need ≡ length t → need ≤ length area → Wrote area 0 t area′ end
+    → (Text need ≡ answerOf (text t) area) × (area′ ≡ areaOf (text t) area)
+full-answer t area area′ need end e h w =
+    let k : ltb (length area) (length t) ≡ false = le-ltb (length area) (length t) (omega arith) in
+    (rw (k, e), rw k (front t w (omega arith)))
+
+-- ---- the digits, once rounding has filled their area
+
+pub digits-are : (p : Pattern) (n : Number) (area d : List ℕ) → length area ≡ width → within (p .step) (p .factor) (p .most) (n .i) (n .v .0) (n .f .0) ≡ true
+    → d ≡ rounded (p .step) (p .factor) (p .most) (n .i) (n .v .0) (n .f .0) area → d ≡ digitsOf p n
+digits-are p n area d l w e =
+    let k : ltb (length area) width ≡ false = le-ltb (length area) width (omega arith) in
+    let f : d ≡ figures (length area) (unitsOf (p .step) (p .factor) (p .most) (n .i) (n .v .0) (n .f .0)) = rw (k, w) at e in
+    rw l at f

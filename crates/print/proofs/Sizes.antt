@@ -1,0 +1,132 @@
+-- How long a text is at most: an item of an affix prints at most a symbol, and so does the place behind a digit.
+use mathlib.Core.Path.{_≡_, refl, sym, ap, _∙_}
+use mathlib.Core.Bool.{Bool, true, false}
+use mathlib.Core.List.{List, [], _∷_, _++_}
+use Prim.Native.Nat.{ℕ, zero, suc, _+_, _*_, _-_, _≤_, _<_, min, max}
+use native.Mathlib.Omega.{arith}
+use borrow.Author.Tests.{eqb-true}
+use lib.Dec.{ltb, eqb}
+use lib.ListN.{length, getD, take, drop, length-append, length-take, length-drop}
+use Rattle.decimal.specs.Choice.{if_then_else_}
+use Rattle.decimal.specs.Digits.{lead, trim}
+use Rattle.decimal.proofs.Choices.{tested, choice, not-both}
+use Rattle.utf8.specs.Utf8.{charBytes, restFits, charLen, isChar}
+use Rattle.lexer.specs.declared.Item.{Item}
+use Rattle.lexer.specs.declared.Item.the-variants.{Text, Symbol as SymbolItem, Place, Quote, Semicolon, Reserved}
+use Rattle.lexer.specs.Items.{tokenAt, quotedAfter, isNumber, itemsFrom, items}
+use Rattle.symbols.specs.declared.Symbol.{Symbol}
+use Rattle.symbols.specs.declared.Symbol.the-variants.{Decimal, Group, Minus}
+use Rattle.symbols.specs.Entries.{bodyFits}
+use Rattle.pattern.specs.declared.Span.{Span}
+use Rattle.pattern.specs.declared.Pattern.{Pattern}
+use Rattle.layout.specs.declared.Affixes.{Affixes}
+use Rattle.layout.specs.Layout.{wholeDigits, fractionDigits, kept, spell, mark, grouped, pointed, body}
+use Rattle.layout.specs.Text.{symbolOf, render, rendered, partOf, affixText, numberText, laidOut}
+
+-- ---- a code point has at most four bytes
+
+bytes-four : (b : ℕ) → charBytes b ≤ 4
+bytes-four b =
+    choice (λ (n : ℕ). n ≤ 4) (ltb b 0x80) (λ k. omega arith)
+    (λ k. choice (λ (n : ℕ). n ≤ 4) (ltb b 0xC2) (λ l. omega arith)
+    (λ l. choice (λ (n : ℕ). n ≤ 4) (ltb b 0xE0) (λ m. omega arith)
+    (λ m. choice (λ (n : ℕ). n ≤ 4) (ltb b 0xF0) (λ o. omega arith)
+    (λ o. choice (λ (n : ℕ). n ≤ 4) (ltb b 0xF5) (λ q. omega arith) (λ q. omega arith)))))
+
+char-four : (s : List ℕ) → charLen s ≤ 4
+char-four s =
+    let n = charBytes (getD s 0 0) in
+    let h = bytes-four (getD s 0 0) in
+    choice (λ (m : ℕ). m ≤ 4) (ltb (length s) n) (λ k. omega arith)
+    (λ k. choice (λ (m : ℕ). m ≤ 4) (ltb n 2) (λ l. h)
+    (λ l. choice (λ (m : ℕ). m ≤ 4) (restFits (getD s 0 0) (take (n - 1) (drop 1 s))) (λ o. h) (λ o. omega arith)))
+
+is-four : (s : List ℕ) → isChar s ≡ true → length s ≤ 4
+is-four s e =
+    tested (eqb (length s) 0) (λ k. not-both e (rw k))
+    (λ k.
+    let f : eqb (charLen s) (length s) ≡ true = rw k at e in
+    omega (arith, eqb-true (charLen s) (length s) f, char-four s))
+
+pub body-four : (s : List ℕ) → bodyFits s ≡ true → length s ≤ 4
+body-four s e = tested (isChar s) (λ k. is-four s k) (λ k. not-both e (rw k))
+
+-- ---- affixes
+
+items-size : (q n : Bool) (k : ℕ) (s : List ℕ) → length (itemsFrom q n k s) ≤ length s
+items-size q n k [] = omega arith
+items-size q n (suc k) (b ∷ s) = omega (arith, items-size q n k s)
+items-size q n zero (b ∷ s) =
+    let t = tokenAt q n (b ∷ s) in
+    omega (arith, items-size (quotedAfter q (t .item)) (isNumber (t .item)) (t .width - 1) s)
+
+module _ (symbol : Symbol → List ℕ) (four : (y : Symbol) → length (symbol y) ≤ 4) where
+  render-size : (t : Item) → length (render symbol t) ≤ 4
+  render-size (Text b) = omega arith
+  render-size (SymbolItem m) = four (symbolOf m)
+  render-size (Place b) = omega arith
+  render-size Quote = omega arith
+  render-size Semicolon = omega arith
+  render-size Reserved = omega arith
+
+  rendered-size : (ts : List Item) → length (rendered symbol ts) ≤ 4 * length ts
+  rendered-size [] = omega arith
+  rendered-size (t ∷ ts) = omega (arith, length-append (render symbol t) (rendered symbol ts), render-size t, rendered-size ts)
+
+  affix-size : (s : List ℕ) (p : Span) → length (affixText symbol s p) ≤ 4 * length s
+  affix-size s p =
+      let x = partOf s p in
+      omega (arith, rendered-size (items x), items-size false false 0 x, length-take (p .len) (drop (p .start) s), length-drop (p .start) s)
+
+-- ---- digits
+
+if-size : (b : Bool) (g : List ℕ) → length (if b then g else []) ≤ length g
+if-size true g = omega arith
+if-size false g = omega arith
+
+grouped-size : (g : List ℕ) (p q : ℕ) (d : List ℕ) → length g ≤ 4 → length (grouped g p q d) ≤ 5 * length d
+grouped-size g p q [] h = omega arith
+grouped-size g p q (x ∷ d) h =
+    let m = if mark p q (length d) then g else [] in
+    omega (arith, length-append (spell x ++ m) (grouped g p q d), length-append (spell x) m, if-size (mark p q (length d)) g, grouped-size g p q d h)
+
+whole-size : (least n : ℕ) (d : List ℕ) → length (wholeDigits least n d) ≤ length d
+whole-size least n d =
+    let s = take (length d - n) d in
+    omega (arith, length-drop (min (lead s) (length s - least)) s, length-take (length d - n) d)
+
+fraction-size : (least n : ℕ) (d : List ℕ) → length (fractionDigits least n d) ≤ length d
+fraction-size least n d =
+    let s = drop (length d - n) d in
+    omega (arith, length-take (max least (length (trim s))) s, length-drop (length d - n) d)
+
+pub text-size : (symbol : Symbol → List ℕ) (s : List ℕ) (p : Pattern) (a : Affixes) (d : List ℕ) → ((y : Symbol) → length (symbol y) ≤ 4)
+    → length (laidOut symbol s p a d) ≤ 8 + 8 * length s + 10 * length d
+text-size symbol s p a d four =
+    let m = if a .minus then symbol Minus else [] in
+    let w = wholeDigits (p .least) (p .most) d in
+    let f = fractionDigits (p .fraction) (p .most) d in
+    let i = grouped (symbol Group) (p .primary) (p .secondary) w in
+    let point = if ltb 0 (length f) then symbol Decimal else [] in
+    let g = grouped [] 0 0 f in
+    let x = affixText symbol s (a .prefix) in
+    let y = affixText symbol s (a .suffix) in
+    let n = i ++ (point ++ g) in
+    omega (
+      arith,
+      length-append m (x ++ (n ++ y)),
+      length-append x (n ++ y),
+      length-append n y,
+      length-append i (point ++ g),
+      length-append point g,
+      if-size (a .minus) (symbol Minus),
+      four Minus,
+      if-size (ltb 0 (length f)) (symbol Decimal),
+      four Decimal,
+      grouped-size (symbol Group) (p .primary) (p .secondary) w (four Group),
+      grouped-size [] 0 0 f (omega arith),
+      whole-size (p .least) (p .most) d,
+      fraction-size (p .fraction) (p .most) d,
+      affix-size symbol four s (a .prefix),
+      affix-size symbol four s (a .suffix),
+    )

@@ -1,0 +1,61 @@
+-- Document 01: "Printing tests symbols, pattern, number, 50, 51."
+use mathlib.Core.Bool.{Bool, true, false}
+use mathlib.Core.List.{List, [], _∷_, _++_}
+use Prim.Native.Nat.{ℕ}
+use lib.Dec.{ltb}
+use lib.ListN.{length, drop}
+use Rattle.decimal.specs.Choice.{if_then_else_}
+use Rattle.answer.specs.declared.Refusal.{Refusal}
+use Rattle.answer.specs.declared.Refusal.the-variants.{PrintedExponent, AreaTooShort}
+use Rattle.symbols.specs.declared.Judged.{Judged}
+use Rattle.symbols.specs.declared.Judged.the-variants.{Good, Refused as SymbolsRefused}
+use Rattle.symbols.specs.Entries.{readSymbols, symbolIn, standardRecord}
+use Rattle.pattern.specs.declared.Pattern.{Pattern}
+use Rattle.pattern.specs.declared.PatternReading.{PatternReading}
+use Rattle.pattern.specs.declared.PatternReading.the-variants.{Is as PatternIs, Refused as PatternRefused}
+use Rattle.pattern.specs.Reading.{readPattern}
+use Rattle.number.specs.declared.Number.{Number}
+use Rattle.number.specs.declared.Reading.{Reading}
+use Rattle.number.specs.declared.Reading.the-variants.{Is as NumberIs, Refused as NumberRefused}
+use Rattle.number.specs.Reading.{readNumber}
+use Rattle.print.specs.declared.Printed.{Printed}
+use Rattle.print.specs.declared.Printed.the-variants.{Text, Refused}
+use Rattle.layout.specs.Text.{textOf}
+
+-- what is to be printed, before the output area is looked at
+pub data Outcome : Type 0 where
+  text : List ℕ → Outcome
+  refused : Refusal → Outcome
+
+-- 50: "printing a number with an exponent"
+abbrev pub ofNumber : List ℕ → List ℕ → Pattern → Number → Outcome
+ofNumber house s p n = if ltb 0 (n .e) then refused PrintedExponent else text (textOf (symbolIn house standardRecord) s p n)
+
+abbrev pub afterNumber : List ℕ → List ℕ → Pattern → Reading → Outcome
+afterNumber house s p (NumberIs n) = ofNumber house s p n
+afterNumber house s p (NumberRefused r) = refused r
+
+abbrev pub afterPattern : List ℕ → List ℕ → PatternReading → List ℕ → Outcome
+afterPattern house s (PatternIs p) number = afterNumber house s p (readNumber number)
+afterPattern house s (PatternRefused r) number = refused r
+
+abbrev pub afterSymbols : List ℕ → Judged → List ℕ → List ℕ → Outcome
+afterSymbols house Good s number = afterPattern house s (readPattern s) number
+afterSymbols house (SymbolsRefused r) s number = refused r
+
+abbrev pub outcome : List ℕ → List ℕ → List ℕ → Outcome
+outcome house s number = afterSymbols house (readSymbols house) s number
+
+-- 51: "text longer than the output area"
+abbrev pub tooLong : List ℕ → List ℕ → Bool
+tooLong t area = ltb (length area) (length t)
+
+-- the answer: 51 with the bytes needed, or the text's length
+abbrev pub answerOf : Outcome → List ℕ → Printed
+answerOf (text t) area = if tooLong t area then Refused (AreaTooShort (length t)) else Text (length t)
+answerOf (refused r) area = Refused r
+
+-- "A refusal writes nothing; a success writes its text at the front and no byte beyond": the whole area behind
+abbrev pub areaOf : Outcome → List ℕ → List ℕ
+areaOf (text t) area = if tooLong t area then area else t ++ drop (length t) area
+areaOf (refused r) area = area

@@ -1,0 +1,271 @@
+-- Laws of arithmetic on decimal digits in place: one digit's turn of a multiplication and of a division.
+use mathlib.Core.Path.{_≡_, refl, sym, ap, _∙_}
+use mathlib.Core.Bool.{true}
+use mathlib.Core.List.{List, [], _∷_, _++_, append-assoc}
+use Prim.Native.Nat.{ℕ, zero, suc, _+_, _*_, _-_, _/_, _%_, _^_, _≤_, _<_}
+use native.Mathlib.Omega.{arith}
+use native.Mathlib.Numerals.{add-one}
+use native.Mathlib.Nat.{div-add-mod', mod-lt, mul-le-mul-right, mul-le-mul, div-lt-iff-lt-mul, mod-eq-of-lt, div-le-self, add-zero, pow-succ'}
+use lib.Arith.{digits-div, digits-mod}
+use lib.Pow.{pow-add}
+use lib.Dec.{ltb, leb}
+use borrow.Author.Tests.{le-ltb, ltb-false, leb-true, le-leb}
+use Rattle.decimal.specs.Choice.{if_then_else_}
+use Rattle.decimal.proofs.Choices.{tested, not-both}
+use lib.ListN.{length, getD, take, drop, set, length-set, drop-of-length-le}
+use lib.Seq.{drop-cons, take-suc, take-suc-set, take-length, take-set-le, take-all, drop-set-lt}
+use Rattle.decimal.specs.Digits.{isDigit, AllDigits, value, figures}
+use Rattle.decimal.proofs.Runs.{digit-bounds, digits-head}
+use Rattle.decimal.proofs.Values.{value-snoc, value-more, value-lt, power-mono, power-pos}
+use Rattle.decimal.proofs.Figured.{length-figures, digits-figures, value-figures, figures-start, figures-again}
+use Rattle.rounding.specs.Nearest.{up, stepsOf, exact, unitsOf}
+use Rattle.rounding.specs.Limits.{width, maxInteger, maxPlaces, maxFraction, maxFactor, maxStep, within}
+
+-- ---- a multiplication, from the last digit on
+
+pub record Scaling (m c : ℕ) (d₀ d : List ℕ) (over i : ℕ) : Type 0 where
+  pub size : length d ≡ length d₀
+  pub at : i ≤ length d
+  pub low : over ≤ 100000000000000000
+  pub digits : figures i (value (take i d) * m + over) ++ drop i d ≡ figures (length d₀) (value d₀ * m + c)
+
+pub scale-start : (m c : ℕ) (d : List ℕ) → c ≤ 100000000000000000 → Scaling m c d d c (length d)
+scale-start m c d h =
+    record {
+      size = refl;
+      at = omega arith;
+      low = h;
+      digits = rw (take-length d) (figures-start (value d * m + c) d);
+    }
+
+pub scale-again : (m c : ℕ) (d₀ d : List ℕ) (over i j x : ℕ) → m ≤ 1000000000000000 → Scaling m c d₀ d over i → i ≡ suc j → x ≡ getD d j 0 - 48 → x ≤ 207
+    → Scaling m c d₀ (set d j (48 + (x * m + over) % 10)) ((x * m + over) / 10) j
+scale-again m c d₀ d over i j x hm s e ex hx =
+    let n = x * m + over in
+    let y = 48 + n % 10 in
+    let h : j < length d = omega (arith, s .at) in
+    let v = value (take j d) in
+    let k : value (take i d) ≡ 10 * v + x = rw (e, take-suc d j 0 h, ex) (value-snoc 0 (take j d) (getD d j 0)) in
+    let t : value (take i d) * m + over ≡ 10 * (v * m) + n = rw k (omega arith) in
+    let q : (10 * (v * m) + n) / 10 ≡ v * m + n / 10 = omega arith in
+    let r : (10 * (v * m) + n) % 10 ≡ n % 10 = omega arith in
+    record {
+      size = simp length-set (s .size);
+      at = simp length-set (omega arith);
+      low = omega (arith, s .low, mul-le-mul-right m hx);
+      digits = rw (take-set-le j d j y (omega arith))
+          (rw (q, r) at (figures-again (10 * (v * m) + n) i j d e h) ∙ rw t at (s .digits));
+    }
+
+pub scale-done : (m c : ℕ) (d₀ d : List ℕ) (over i : ℕ) → Scaling m c d₀ d over i → i ≡ 0 → d ≡ figures (length d₀) (value d₀ * m + c)
+scale-done m c d₀ d over i s e = rw e at (s .digits)
+
+-- ---- a division, from the first digit on
+
+digit-at : (s : List ℕ) (i : ℕ) → AllDigits s → i < length s → isDigit (getD s i 0) ≡ true
+digit-at [] i a h = absurd (omega arith)
+digit-at (b ∷ s) zero a h = digits-head b s a .0
+digit-at (b ∷ s) (suc i) a h = digit-at s i (digits-head b s a .1) (omega arith)
+
+pub record Dividing (step : ℕ) (d₀ d : List ℕ) (r i : ℕ) : Type 0 where
+  pub size : length d ≡ length d₀
+  pub at : i ≤ length d
+  pub low : r < step
+  pub front : take i d ≡ figures i (value (take i d₀) / step)
+  pub left : drop i d ≡ drop i d₀
+  pub rest : r ≡ value (take i d₀) % step
+
+pub divide-start : (step : ℕ) (d : List ℕ) → 0 < step → Dividing step d d 0 0
+divide-start step d h =
+    record {
+      size = refl;
+      at = omega arith;
+      low = h;
+      front = refl;
+      left = refl;
+      rest = sym (mod-eq-of-lt h);
+    }
+
+-- the digit read is the one that stood there, and the quotient's digit is one
+module _ (step : ℕ) (d₀ d : List ℕ) (r i : ℕ) (s : Dividing step d₀ d r i) (a : AllDigits d₀) (h : i < length d) where
+  pub same-digit : getD d i 0 ≡ getD d₀ i 0
+  same-digit =
+      let h₀ : i < length d₀ = omega (arith, s .size) in
+      let e : getD d i 0 ∷ drop (suc i) d ≡ getD d₀ i 0 ∷ drop (suc i) d₀ = rw (← (drop-cons d i 0 h), ← (drop-cons d₀ i 0 h₀)) (s .left) in
+      ap (λ (l : List ℕ). getD l 0 0) e
+
+  same-rest : drop (suc i) d ≡ drop (suc i) d₀
+  same-rest =
+      let h₀ : i < length d₀ = omega (arith, s .size) in
+      let e : getD d i 0 ∷ drop (suc i) d ≡ getD d₀ i 0 ∷ drop (suc i) d₀ = rw (← (drop-cons d i 0 h), ← (drop-cons d₀ i 0 h₀)) (s .left) in
+      ap (λ (l : List ℕ). drop 1 l) e
+
+  pub digit-nine : getD d i 0 - 48 ≤ 9
+  digit-nine = rw same-digit (omega (arith, digit-bounds (getD d₀ i 0) (digit-at d₀ i a (omega (arith, s .size)))))
+
+  pub quotient-nine : (x : ℕ) → x ≡ getD d i 0 - 48 → (10 * r + x) / step ≤ 9
+  quotient-nine x e =
+      let p : 0 < step = omega (arith, s .low) in
+      let l : (10 * r + x) / step < 10 = div-lt-iff-lt-mul p .1 (omega (arith, s .low, digit-nine)) in
+      omega arith
+
+  pub divide-again : (x : ℕ) → x ≡ getD d i 0 - 48
+      → Dividing step d₀ (set d i (48 + (10 * r + x) / step)) ((10 * r + x) % step) (i + 1)
+  divide-again x e =
+      let n = 10 * r + x in
+      let t = n / step in
+      let y = 48 + t in
+      let p : 0 < step = omega (arith, s .low) in
+      let v = value (take i d₀) in
+      let q = v / step in
+      let nine = quotient-nine x e in
+      let more : value (take (i + 1) d₀) ≡ 10 * v + x = rw (value-more 0 d₀ i (omega (arith, s .size)), e, same-digit) in
+      let whole : 10 * v + x ≡ (10 * q + t) * step + n % step = omega (arith, div-add-mod' v step, div-add-mod' n step, s .rest) in
+      let quo : value (take (i + 1) d₀) / step ≡ 10 * q + t = rw (more, whole) (digits-div (10 * q + t) (mod-lt n p)) in
+      let rem : value (take (i + 1) d₀) % step ≡ n % step = rw (more, whole) (digits-mod (10 * q + t) (mod-lt n p)) in
+      let f : (10 * q + t) / 10 ≡ q = omega arith in
+      let g : (10 * q + t) % 10 ≡ t = omega arith in
+      record {
+        size = simp length-set (s .size);
+        at = simp length-set (omega arith);
+        low = mod-lt n p;
+        front = rw (quo, add-one) (rw (f, g) (take-suc-set d i y h ∙ ap (λ (l : List ℕ). l ++ (y ∷ [])) (s .front)));
+        left = rw (add-one, drop-set-lt (suc i) d i y (omega arith)) same-rest;
+        rest = sym rem;
+      }
+
+pub divide-done : (step : ℕ) (d₀ d : List ℕ) (r i : ℕ) → Dividing step d₀ d r i → length d ≤ i
+    → (r ≡ value d₀ % step) × (d ≡ figures (length d₀) (value d₀ / step))
+divide-done step d₀ d r i s h =
+    let e : i ≡ length d₀ = omega (arith, s .at, s .size) in
+    let t : take i d₀ ≡ d₀ = take-all i d₀ (omega arith) in
+    let f : take i d ≡ figures i (value d₀ / step) = rw t at (s .front) in
+    (rw t at (s .rest), sym (take-all i d h) ∙ f ∙ ap (λ (k : ℕ). figures k (value d₀ / step)) e)
+
+-- ---- the last digit
+
+pub odd-none : (s : List ℕ) → length s ≡ 0 → 0 ≡ value s % 2
+odd-none s e = rw (sym (take-length s) ∙ ap (λ (n : ℕ). take n s) e)
+
+pub odd-last : (s : List ℕ) (j x : ℕ) → length s ≡ suc j → x ≡ getD s j 0 - 48 → x % 2 ≡ value s % 2
+odd-last s j x e ex =
+    let k : s ≡ take j s ++ (getD s j 0 ∷ []) = sym (take-length s) ∙ ap (λ (n : ℕ). take n s) e ∙ take-suc s j 0 (omega arith) in
+    omega (arith, ap value k ∙ value-snoc 0 (take j s) (getD s j 0))
+
+-- ---- digits of numbers that have room
+
+pub value-room : (k n : ℕ) → n < 10 ^ k → value (figures k n) ≡ n
+value-room k n h = value-figures k n ∙ mod-eq-of-lt h
+
+length-of : (k n : ℕ) (d : List ℕ) → d ≡ figures k n → length d ≡ k
+length-of k n d e = ap length e ∙ length-figures k n
+
+room : (k j : ℕ) → j ≤ k → (n : ℕ) → n < 10 ^ j → n < 10 ^ k
+room k j h n l = omega (arith, power-mono {i = j} {j = k} h)
+
+-- the exact value from its operands: the integer's digits, those of the fraction behind them, and then the factor
+pub exact-written : (k i v f factor most p t : ℕ) (d₁ d₂ d₃ : List ℕ) → width ≤ k → i ≤ maxInteger → f ≤ maxFraction → p ≡ 10 ^ v → p ≤ 1000000000 → t ≡ 10 ^ most
+    → d₁ ≡ figures k i → d₂ ≡ figures (length d₁) (value d₁ * p + f) → d₃ ≡ figures (length d₂) (value d₂ * (factor * t) + 0)
+    → d₃ ≡ figures k (exact factor most i v f)
+exact-written k i v f factor most p t d₁ d₂ d₃ hk hi hf ep hp et e₁ e₂ e₃ =
+    let l₁ = length-of k i d₁ e₁ in
+    let v₁ : value d₁ ≡ i = ap value e₁ ∙ value-room k i (room k 19 (omega arith) i (omega arith)) in
+    let e₂′ : d₂ ≡ figures k (i * p + f) = rw (l₁, v₁) at e₂ in
+    let l₂ = length-of k (i * p + f) d₂ e₂′ in
+    let v₂ : value d₂ ≡ i * p + f = ap value e₂′ ∙ value-room k (i * p + f) (room k 28 (omega arith) (i * p + f) (omega (arith, mul-le-mul hi hp))) in
+    let e₃′ : d₃ ≡ figures k ((i * p + f) * (factor * t) + 0) = rw (l₂, v₂) at e₃ in
+    rw (← ep, ← et) (e₃′ ∙ ap (figures k) (add-zero ((i * p + f) * (factor * t))))
+
+-- a product has room where its factors' digits do
+product-room : (k a b n m : ℕ) → suc (a + b) ≤ k → n ≤ 10 ^ a → m ≤ 10 ^ b → n * m < 10 ^ k
+product-room k a b n m h x y =
+    let p : n * m ≤ 10 ^ a * 10 ^ b = mul-le-mul x y in
+    let q : 10 ^ suc (a + b) ≤ 10 ^ k = power-mono h in
+    let e : 10 ^ suc (a + b) ≡ 10 * (10 ^ a * 10 ^ b) = pow-succ' 10 (a + b) ∙ ap (λ (z : ℕ). 10 * z) (pow-add 10 a b) in
+    omega (arith, mul-le-mul (power-pos a) (power-pos b))
+
+-- it has room
+pub exact-room : (k i v f factor most : ℕ) → width ≤ k → i ≤ maxInteger → f ≤ maxFraction → v ≤ maxPlaces → factor ≤ maxFactor → most ≤ maxPlaces
+    → exact factor most i v f < 10 ^ k
+exact-room k i v f factor most hk hi hf hv hc hm =
+    let a : i * 10 ^ v ≤ maxInteger * 10 ^ 9 = mul-le-mul hi (power-mono hv) in
+    let b : factor * 10 ^ most ≤ 10 ^ 12 = mul-le-mul hc (power-mono hm) in
+    let c : i * 10 ^ v + f ≤ 10 ^ 28 = omega arith in
+    product-room k 28 12 (i * 10 ^ v + f) (factor * 10 ^ most) (omega arith) c b
+
+-- a division, the test at the half, and the product back
+pub rounds : (step s : ℕ) (d₀ d₁ d₂ : List ℕ) (r odd u : ℕ) → 0 < s → AllDigits d₀
+    → r ≡ value d₀ % s → d₁ ≡ figures (length d₀) (value d₀ / s) → odd ≡ value d₁ % 2 → u ≡ up s odd r
+    → d₂ ≡ figures (length d₁) (value d₁ * step + u * step) → d₂ ≡ figures (length d₀) (stepsOf s (value d₀) * step)
+rounds step s d₀ d₁ d₂ r odd u h a er e₁ eo eu e₂ =
+    let k = length d₀ in
+    let q = value d₀ / s in
+    let l₁ = length-of k q d₁ e₁ in
+    let small : q < 10 ^ k = omega (arith, div-le-self (value d₀) s, value-lt d₀ a) in
+    let v₁ : value d₁ ≡ q = ap value e₁ ∙ value-room k q small in
+    let w : u ≡ up s (q % 2) (value d₀ % s) = eu ∙ rw (eo, er, v₁) in
+    let z : q * step + u * step ≡ (q + u) * step = omega arith in
+    rw (l₁, v₁, z, w) at e₂
+
+-- ---- the bounds
+
+pub record Fits (step factor most i v f : ℕ) : Type 0 where
+  pub step-least : 0 < step
+  pub step-most : step ≤ maxStep
+  pub factor-most : factor ≤ maxFactor
+  pub most-most : most ≤ maxPlaces
+  pub integer-most : i ≤ maxInteger
+  pub places-most : v ≤ maxPlaces
+  pub fraction-most : f ≤ maxFraction
+
+pub within-fits : (step factor most i v f : ℕ) → within step factor most i v f ≡ true → Fits step factor most i v f
+within-fits step factor most i v f e =
+    tested (ltb step 1) (λ a. not-both e (rw a))
+    (λ a. tested (ltb maxStep step) (λ b. not-both e (rw (a, b)))
+    (λ b. tested (ltb maxFactor factor) (λ c. not-both e (rw (a, b, c)))
+    (λ c. tested (ltb maxPlaces most) (λ d. not-both e (rw (a, b, c, d)))
+    (λ d. tested (ltb maxInteger i) (λ g. not-both e (rw (a, b, c, d, g)))
+    (λ g. tested (ltb maxPlaces v) (λ h. not-both e (rw (a, b, c, d, g, h)))
+    (λ h.
+    let k : leb f maxFraction ≡ true = rw (a, b, c, d, g, h) at e in
+    record {
+      step-least = ltb-false step 1 a;
+      step-most = ltb-false maxStep step b;
+      factor-most = ltb-false maxFactor factor c;
+      most-most = ltb-false maxPlaces most d;
+      integer-most = ltb-false maxInteger i g;
+      places-most = ltb-false maxPlaces v h;
+      fraction-most = leb-true f maxFraction k;
+    }))))))
+
+pub fits-within : (step factor most i v f : ℕ) → Fits step factor most i v f → within step factor most i v f ≡ true
+fits-within step factor most i v f x =
+    rw (
+      le-ltb step 1 (x .step-least),
+      le-ltb maxStep step (x .step-most),
+      le-ltb maxFactor factor (x .factor-most),
+      le-ltb maxPlaces most (x .most-most),
+      le-ltb maxInteger i (x .integer-most),
+      le-ltb maxPlaces v (x .places-most),
+    ) (le-leb f maxFraction (x .fraction-most))
+
+-- the step in the exact value's units
+pub scaled-step : (step v p : ℕ) → 0 < step → step ≤ maxStep → p ≡ 10 ^ v → p ≤ 1000000000 → (0 < step * p) × (step * p ≤ 1000000000000000)
+scaled-step step v p h s e l =
+    let b : 1 ≤ p = rw e (power-pos v) in
+    let q : 1 * 1 ≤ step * p = mul-le-mul h b in
+    (omega arith, omega (arith, mul-le-mul s l))
+
+-- what is written is the definition's
+pub rounded-is : (step factor most i v f p : ℕ) (d₀ d₁ d₂ : List ℕ) → width ≤ length d₀ → Fits step factor most i v f → p ≡ 10 ^ v
+    → d₁ ≡ figures (length d₀) (exact factor most i v f) → d₂ ≡ figures (length d₁) (stepsOf (step * p) (value d₁) * step)
+    → d₂ ≡ figures (length d₀) (unitsOf step factor most i v f)
+rounded-is step factor most i v f p d₀ d₁ d₂ hk x ep e₁ e₂ =
+    let k = length d₀ in
+    let n = exact factor most i v f in
+    let v₁ : value d₁ ≡ n = ap value e₁ ∙ value-room k n (exact-room k i v f factor most hk (x .integer-most) (x .fraction-most) (x .places-most) (x .factor-most) (x .most-most)) in
+    let l₁ = length-of k n d₁ e₁ in
+    rw (l₁, v₁, ep) at e₂
+
+pub digits-exact : (k n : ℕ) (d : List ℕ) → d ≡ figures k n → AllDigits d
+digits-exact k n d e = rw e (digits-figures k n)
