@@ -1,18 +1,17 @@
 -- Where group symbols stand: "The primary group is the places after the last comma; the secondary those between the last two, else equal to the primary.
 -- Grouping is printed wherever the integer has more digits than the primary group".
-use mathlib.Core.Path.{_≡_, refl, sym, ap, _∙_}
-use mathlib.Core.Bool.{Bool, true, false}
+use mathlib.Core.Path.{_≡_, refl, ap, _∙_}
+use mathlib.Core.Bool.{true, false}
 use mathlib.Core.List.{List, [], _∷_, _++_}
-use Prim.Native.Nat.{ℕ, zero, suc, _+_, _*_, _-_, _/_, _%_, _≤_, _<_}
+use Prim.Native.Nat.{ℕ, _+_, _*_, _-_, _/_, _%_, _≤_, _<_}
 use native.Mathlib.Omega.{arith}
-use native.Mathlib.Nat.{div-add-mod', add-zero}
+use native.Mathlib.Nat.{div-add-mod'}
 use borrow.Author.Tests.{lt-ltb, le-ltb, eq-eqb, ne-eqb, eqb-true, eqb-false, ltb-false}
 use lib.Arith.{digits-mod}
 use lib.Dec.{ltb, eqb}
 use lib.ListN.{length}
-use Rattle.decimal.specs.Choice.{if_then_else_}
 use Rattle.decimal.proofs.Choices.{tested, not-both}
-use Rattle.layout.specs.Layout.{spell, mark, grouped}
+use Rattle.layout.specs.Layout.{mark, grouped}
 use Rattle.layout.specs.Claims.{GroupEnds}
 
 -- behind a digit with `left` digits to come a symbol stands exactly where a group ends

@@ -11,10 +11,9 @@ use lib.Dec.{eqb}
 use lib.ListN.{length, getD, take, drop, length-take, length-drop, take-append-drop}
 use Rattle.decimal.specs.Choice.{if_then_else_}
 use Rattle.decimal.specs.Digits.{AllDigits, valueFrom, value, lead, shown, keep, trim}
-use Rattle.decimal.proofs.Choices.{tested}
 use Rattle.decimal.proofs.Runs.{digits-take, digits-drop}
 use Rattle.decimal.proofs.Values.{value-append}
-use Rattle.decimal.proofs.Zeros.{lead-le, lead-stop, value-shown, trim-front, trim-le, trim-last}
+use Rattle.decimal.proofs.Zeros.{lead-le, lead-stop, value-shown, trim-front, trim-last}
 use Rattle.layout.specs.Layout.{wholeDigits, kept, fractionDigits}
 use Rattle.layout.specs.Claims.{ShownDigits}
 

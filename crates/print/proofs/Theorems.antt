@@ -1,13 +1,11 @@
 -- Theorems of printing: which outcome is given when, the value of the digits shown, what the area holds, and 51's figure.
-use mathlib.Core.Path.{_≡_, refl, sym, ap, _∙_}
-use mathlib.Core.Bool.{Bool, true, false}
-use mathlib.Core.List.{List, [], _∷_, _++_}
-use Prim.Native.Nat.{ℕ, _+_, _*_, _^_, _≤_, _<_}
+use mathlib.Core.Path.{_≡_, refl, sym}
+use mathlib.Core.List.{List, _++_}
+use Prim.Native.Nat.{ℕ, _+_, _≤_, _<_}
 use native.Mathlib.Omega.{arith}
 use borrow.Author.Tests.{lt-ltb, ltb-true, ltb-false}
 use lib.Dec.{ltb}
 use lib.ListN.{length, drop}
-use Rattle.decimal.specs.Choice.{if_then_else_}
 use Rattle.decimal.specs.Digits.{value}
 use Rattle.decimal.proofs.Choices.{tested, choice, never}
 use Rattle.decimal.proofs.Figured.{length-figures, digits-figures}
@@ -33,7 +31,6 @@ use Rattle.layout.specs.Layout.{wholeDigits, fractionDigits}
 use Rattle.layout.specs.Text.{digitsOf}
 use Rattle.layout.specs.Claims.{ShownDigits}
 use Rattle.layout.proofs.Shown.{digits-shown}
-use Rattle.print.specs.declared.Printed.{Printed}
 use Rattle.print.specs.declared.Printed.the-variants.{Text, Refused}
 use Rattle.print.specs.Outcome.{Outcome, text, refused, ofNumber, afterNumber, afterPattern, afterSymbols, outcome, tooLong, answerOf, areaOf}
 use Rattle.print.specs.Claims.{Read, Verdict, by-symbols, by-pattern, by-number, by-exponent, prints}

@@ -1,7 +1,7 @@
 -- Laws of arithmetic on decimal digits in place: one digit's turn of a multiplication and of a division.
 use mathlib.Core.Path.{_≡_, refl, sym, ap, _∙_}
 use mathlib.Core.Bool.{true}
-use mathlib.Core.List.{List, [], _∷_, _++_, append-assoc}
+use mathlib.Core.List.{List, [], _∷_, _++_}
 use Prim.Native.Nat.{ℕ, zero, suc, _+_, _*_, _-_, _/_, _%_, _^_, _≤_, _<_}
 use native.Mathlib.Omega.{arith}
 use native.Mathlib.Numerals.{add-one}
@@ -10,9 +10,8 @@ use lib.Arith.{digits-div, digits-mod}
 use lib.Pow.{pow-add}
 use lib.Dec.{ltb, leb}
 use borrow.Author.Tests.{le-ltb, ltb-false, leb-true, le-leb}
-use Rattle.decimal.specs.Choice.{if_then_else_}
 use Rattle.decimal.proofs.Choices.{tested, choice, not-both}
-use lib.ListN.{length, getD, take, drop, set, length-set, drop-of-length-le}
+use lib.ListN.{length, getD, take, drop, set, length-set}
 use lib.Seq.{drop-cons, take-suc, take-suc-set, take-length, take-set-le, take-all, drop-set-lt}
 use Rattle.decimal.specs.Digits.{isDigit, AllDigits, value, figures}
 use Rattle.decimal.proofs.Runs.{digit-bounds, digits-head}

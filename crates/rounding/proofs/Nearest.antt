@@ -5,10 +5,8 @@ use native.Mathlib.Omega.{arith}
 use native.Mathlib.Nat.{add-zero, div-add-mod', mod-lt, mul-le-mul-right, mul-le-mul}
 use native.Mathlib.Decide.{decLe, ℕ-discrete}
 use borrow.Author.Tests.{lt-ltb, le-ltb}
-use lib.Dec.{ltb}
-use Rattle.decimal.specs.Choice.{if_then_else_}
 use Rattle.decimal.proofs.Values.{power-pos}
-use Rattle.rounding.specs.Nearest.{apart, NearestEven, up, stepsOf, exact, unitsOf, Permitted}
+use Rattle.rounding.specs.Nearest.{apart, NearestEven, stepsOf, exact, unitsOf, Permitted}
 
 -- by cases: at most, or more
 pub by-le : {P : Type 0} (a b : ℕ) → (a ≤ b → P) → (b < a → P) → P
