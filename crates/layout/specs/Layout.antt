@@ -1,5 +1,5 @@
 -- Document 01, "The pattern": which digits of a rounded value are shown, and how they are written.
-use mathlib.Core.Bool.{Bool, true, false}
+use mathlib.Core.Bool.{Bool, false}
 use mathlib.Core.List.{List, [], _∷_, _++_}
 use Prim.Native.Nat.{ℕ, _-_, _%_, max}
 use lib.Dec.{ltb, eqb}

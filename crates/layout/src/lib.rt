@@ -5,14 +5,13 @@
 // specs/Text.antt what stands around them. Every function is total; what an area has no room for is
 // counted and not written.
 ghost use mathlib.Core.Path.{_≡_};
-ghost use mathlib.Core.List.{[], _∷_};
+ghost use mathlib.Core.List.{[]};
 ghost use Prim.Native.Nat.{_-_, max, min};
-ghost use lib.ListN.{length, take, drop};
 ghost use Rattle.decimal.specs.Choice.{if_then_else_};
 ghost use Rattle.area.specs.Area.{Wrote};
 ghost use Rattle.lexer.specs.Items.{items};
 ghost use Rattle.symbols.specs.Entries.{symbolIn, standardRecord};
-ghost use Rattle.layout.specs.Layout.{wholeDigits, fractionDigits, spell, mark, grouped, pointed, body};
+ghost use Rattle.layout.specs.Layout.{wholeDigits, fractionDigits, spell, mark, grouped, pointed};
 ghost use Rattle.layout.specs.Text.{symbolOf, render, rendered, affixText, negativeAffixes, affixesOf, numberText, laidOut};
 use lexer::Item;
 use lexer::Mark;

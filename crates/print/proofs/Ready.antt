@@ -1,13 +1,12 @@
 -- What is read of symbols, pattern and number is within the bounds of rounding and of an area's places.
-use mathlib.Core.Path.{_≡_, refl, sym, ap, subst, _∙_}
-use mathlib.Core.Bool.{Bool, true, false}
-use mathlib.Core.List.{List, [], _∷_, _++_}
-use Prim.Native.Nat.{ℕ, _+_, _*_, _-_, _^_, _≤_, _<_, min}
+use mathlib.Core.Path.{_≡_, subst}
+use mathlib.Core.Bool.{true, false}
+use mathlib.Core.List.{List}
+use Prim.Native.Nat.{ℕ, _-_, _≤_, _<_}
 use native.Mathlib.Omega.{arith}
 use borrow.Author.Tests.{ltb-false, lt-ltb, le-ltb}
 use lib.Dec.{ltb}
-use lib.ListN.{length, drop}
-use Rattle.decimal.specs.Choice.{if_then_else_}
+use lib.ListN.{length}
 use Rattle.decimal.specs.Digits.{figures}
 use Rattle.decimal.proofs.Choices.{tested, choice}
 use Rattle.decimal.proofs.Values.{power-mono}
@@ -15,14 +14,12 @@ use Rattle.decimal.proofs.Figured.{length-figures}
 use Rattle.answer.specs.declared.Refusal.the-variants.{AreaTooShort}
 use Rattle.area.specs.Area.{Wrote, most}
 use Rattle.area.proofs.Pieces.{front}
-use Rattle.symbols.specs.declared.Symbol.{Symbol}
 use Rattle.symbols.specs.declared.Judged.the-variants.{Good}
 use Rattle.symbols.specs.Entries.{readSymbols, symbolIn, standardRecord}
 use Rattle.symbols_grammar.proofs.Records.{found-fits}
 use Rattle.number.specs.declared.Number.{Number}
 use Rattle.number.specs.declared.Reading.the-variants.{Is as NumberIs}
 use Rattle.number.specs.Reading.{readNumber}
-use Rattle.number.specs.Admitted.{Admitted}
 use Rattle.number.proofs.Admissible.{admitted}
 use Rattle.pattern.specs.declared.Half.{Half}
 use Rattle.pattern.specs.declared.Pattern.{Pattern}
@@ -30,13 +27,12 @@ use Rattle.pattern.specs.declared.PatternReading.{PatternReading}
 use Rattle.pattern.specs.declared.PatternReading.the-variants.{Is as PatternIs}
 use Rattle.pattern.specs.Limits.{maxBytes}
 use Rattle.pattern.specs.Reading.{factorOf, halfOf, patternOf, readPattern}
-use Rattle.pattern_grammar.specs.Bounds.{Bounds}
 use Rattle.pattern_grammar.specs.Verdict.{negativeOf, Verdict, too-long, not-utf8, reserved, not-a-pattern, many-places, large-step, many-marks, other-marks, read}
 use Rattle.pattern_grammar.proofs.Verdicts.{verdict-found, not-read}
 use Rattle.pattern_grammar.proofs.Bounds.{read-bounds}
 use Rattle.rounding.specs.Nearest.{unitsOf}
 use Rattle.rounding.specs.Limits.{within, width, rounded}
-use Rattle.rounding.proofs.Arithmetic.{Fits, fits-within}
+use Rattle.rounding.proofs.Arithmetic.{fits-within}
 use Rattle.layout.specs.Text.{affixesOf, digitsOf, textOf}
 use Rattle.print.specs.declared.Printed.the-variants.{Text, Refused}
 use Rattle.print.specs.Outcome.{text, answerOf, areaOf}

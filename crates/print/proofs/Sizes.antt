@@ -1,8 +1,8 @@
 -- How long a text is at most: an item of an affix prints at most a symbol, and so does the place behind a digit.
-use mathlib.Core.Path.{_≡_, refl, sym, ap, _∙_}
+use mathlib.Core.Path.{_≡_}
 use mathlib.Core.Bool.{Bool, true, false}
 use mathlib.Core.List.{List, [], _∷_, _++_}
-use Prim.Native.Nat.{ℕ, zero, suc, _+_, _*_, _-_, _≤_, _<_, min, max}
+use Prim.Native.Nat.{ℕ, zero, suc, _+_, _*_, _-_, _≤_, min, max}
 use native.Mathlib.Omega.{arith}
 use borrow.Author.Tests.{eqb-true}
 use lib.Dec.{ltb, eqb}
@@ -20,8 +20,8 @@ use Rattle.symbols.specs.Entries.{bodyFits}
 use Rattle.pattern.specs.declared.Span.{Span}
 use Rattle.pattern.specs.declared.Pattern.{Pattern}
 use Rattle.layout.specs.declared.Affixes.{Affixes}
-use Rattle.layout.specs.Layout.{wholeDigits, fractionDigits, kept, spell, mark, grouped, pointed, body}
-use Rattle.layout.specs.Text.{symbolOf, render, rendered, partOf, affixText, numberText, laidOut}
+use Rattle.layout.specs.Layout.{wholeDigits, fractionDigits, spell, mark, grouped}
+use Rattle.layout.specs.Text.{symbolOf, render, rendered, partOf, affixText, laidOut}
 
 -- ---- a code point has at most four bytes
 

@@ -1,18 +1,17 @@
 -- Laws of arithmetic on decimal digits in place: one digit's turn of a multiplication and of a division.
 use mathlib.Core.Path.{_≡_, refl, sym, ap, _∙_}
 use mathlib.Core.Bool.{true}
-use mathlib.Core.List.{List, [], _∷_, _++_, append-assoc}
+use mathlib.Core.List.{List, [], _∷_, _++_}
 use Prim.Native.Nat.{ℕ, zero, suc, _+_, _*_, _-_, _/_, _%_, _^_, _≤_, _<_}
 use native.Mathlib.Omega.{arith}
 use native.Mathlib.Numerals.{add-one}
-use native.Mathlib.Nat.{div-add-mod', mod-lt, mul-le-mul-right, mul-le-mul, div-lt-iff-lt-mul, mod-eq-of-lt, div-le-self, add-zero, pow-succ'}
+use native.Mathlib.Nat.{div-add-mod', mod-lt, mul-le-mul-left, mul-le-mul-right, mul-le-mul, div-lt-iff-lt-mul, mod-eq-of-lt, div-le-self, add-zero, pow-succ'}
 use lib.Arith.{digits-div, digits-mod}
 use lib.Pow.{pow-add}
 use lib.Dec.{ltb, leb}
 use borrow.Author.Tests.{le-ltb, ltb-false, leb-true, le-leb}
-use Rattle.decimal.specs.Choice.{if_then_else_}
-use Rattle.decimal.proofs.Choices.{tested, not-both}
-use lib.ListN.{length, getD, take, drop, set, length-set, drop-of-length-le}
+use Rattle.decimal.proofs.Choices.{tested, choice, not-both}
+use lib.ListN.{length, getD, take, drop, set, length-set}
 use lib.Seq.{drop-cons, take-suc, take-suc-set, take-length, take-set-le, take-all, drop-set-lt}
 use Rattle.decimal.specs.Digits.{isDigit, AllDigits, value, figures}
 use Rattle.decimal.proofs.Runs.{digit-bounds, digits-head}
@@ -269,3 +268,44 @@ rounded-is step factor most i v f p d₀ d₁ d₂ hk x ep e₁ e₂ =
 
 pub digits-exact : (k n : ℕ) (d : List ℕ) → d ≡ figures k n → AllDigits d
 digits-exact k n d e = rw e (digits-figures k n)
+
+-- ---- the rounded value has room
+
+up-most : (step odd r : ℕ) → odd ≤ 1 → up step odd r ≤ 1
+up-most step odd r h =
+    choice (λ (n : ℕ). n ≤ 1) (ltb (2 * r) step) (λ k. omega arith)
+    (λ k. choice (λ (n : ℕ). n ≤ 1) (ltb step (2 * r)) (λ l. omega arith) (λ l. h))
+
+-- rounding adds less than a step
+units-below : (step n v : ℕ) → stepsOf (step * 10 ^ v) n * step ≤ n + step
+units-below step n v =
+    let s = step * 10 ^ v in
+    let q = n / s in
+    let u = up s (q % 2) (n % s) in
+    let a : step * 1 ≤ s = mul-le-mul-left step (power-pos v) in
+    let b : q * step ≤ q * s = mul-le-mul-left q (omega arith) in
+    let c : u * step ≤ 1 * step = mul-le-mul-right step (up-most s (q % 2) (n % s) (omega arith)) in
+    omega (arith, div-add-mod' n s)
+
+le-lt : (a b c : ℕ) → a ≤ b → b < c → a < c
+le-lt a b c h l = omega arith
+
+sum-room : (k a b n m : ℕ) → suc (a + b) ≤ k → n ≤ 10 ^ a * 10 ^ b → m ≤ 10 ^ b → n + m < 10 ^ k
+sum-room k a b n m h x y =
+    let q : 10 ^ suc (a + b) ≤ 10 ^ k = power-mono h in
+    let e : 10 ^ suc (a + b) ≡ 10 * (10 ^ a * 10 ^ b) = pow-succ' 10 (a + b) ∙ ap (λ (z : ℕ). 10 * z) (pow-add 10 a b) in
+    let p : 1 * 10 ^ b ≤ 10 ^ a * 10 ^ b = mul-le-mul-right (10 ^ b) (power-pos a) in
+    omega (arith, power-pos b)
+
+pub units-room : (step factor most i v f : ℕ) → Fits step factor most i v f → unitsOf step factor most i v f < 10 ^ width
+units-room step factor most i v f x =
+    le-lt (unitsOf step factor most i v f) (exact factor most i v f + step) (10 ^ width) (units-below step (exact factor most i v f) v)
+    (sum-room width 28 12 (exact factor most i v f) step (omega arith) (mul-le-mul (whole-most x) (scale-most x)) (omega (arith, x .step-most)))
+  where
+    whole-most : Fits step factor most i v f → i * 10 ^ v + f ≤ 10 ^ 28
+    whole-most y =
+        let a : i * 10 ^ v ≤ maxInteger * 10 ^ 9 = mul-le-mul (y .integer-most) (power-mono (y .places-most)) in
+        omega (arith, y .fraction-most)
+
+    scale-most : Fits step factor most i v f → factor * 10 ^ most ≤ 10 ^ 12
+    scale-most y = mul-le-mul (y .factor-most) (power-mono (y .most-most))

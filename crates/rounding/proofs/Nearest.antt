@@ -1,13 +1,12 @@
 -- Theorems of rounding, over every step: the number of steps is the nearest with ties to even, and there is only one such.
-use mathlib.Core.Path.{_≡_, sym}
+use mathlib.Core.Path.{_≡_, refl, sym, ap, _∙_}
 use Prim.Native.Nat.{ℕ, _+_, _*_, _-_, _/_, _%_, _^_, _≤_, _<_}
 use native.Mathlib.Omega.{arith}
-use native.Mathlib.Nat.{add-zero, div-add-mod', mod-lt, mul-le-mul-right}
+use native.Mathlib.Nat.{add-zero, div-add-mod', mod-lt, mul-le-mul-right, mul-le-mul}
 use native.Mathlib.Decide.{decLe, ℕ-discrete}
 use borrow.Author.Tests.{lt-ltb, le-ltb}
-use lib.Dec.{ltb}
-use Rattle.decimal.specs.Choice.{if_then_else_}
-use Rattle.rounding.specs.Nearest.{apart, NearestEven, up, stepsOf}
+use Rattle.decimal.proofs.Values.{power-pos}
+use Rattle.rounding.specs.Nearest.{apart, NearestEven, stepsOf, exact, unitsOf, Permitted}
 
 -- by cases: at most, or more
 pub by-le : {P : Type 0} (a b : ℕ) → (a ≤ b → P) → (b < a → P) → P
@@ -76,3 +75,22 @@ nearest step n h =
     (λ a. by-le (2 * r) step
     (λ b. rw (le-ltb (2 * r) step (omega arith), le-ltb step (2 * r) (omega arith)) (rw e at (round-tie step q r l (omega arith))))
     (λ b. rw (le-ltb (2 * r) step (omega arith), lt-ltb step (2 * r) (omega arith)) (rw e at (round-up step q r l (omega arith)))))
+
+-- the rounded value is permitted
+pub units-permitted : (step factor most i v f : ℕ) → 0 < step → Permitted step factor most i v f (unitsOf step factor most i v f)
+units-permitted step factor most i v f h =
+    record {
+      multiple = stepsOf (step * 10 ^ v) (exact factor most i v f);
+      is-multiple = refl;
+      nearest-even = nearest (step * 10 ^ v) (exact factor most i v f) (scaled-pos step v h);
+    }
+  where
+    scaled-pos : (step v : ℕ) → 0 < step → 0 < step * 10 ^ v
+    scaled-pos s w l = let p : 1 * 1 ≤ s * 10 ^ w = mul-le-mul l (power-pos w) in omega arith
+
+-- there is only one such value
+pub permitted-only : (step factor most i v f a b : ℕ) → 0 < step → Permitted step factor most i v f a → Permitted step factor most i v f b → a ≡ b
+permitted-only step factor most i v f a b h x y =
+    let p : 1 * 1 ≤ step * 10 ^ v = mul-le-mul h (power-pos v) in
+    let e = only (exact factor most i v f) (step * 10 ^ v) (x .multiple) (y .multiple) (omega arith) (x .nearest-even) (y .nearest-even) in
+    x .is-multiple ∙ ap (λ (k : ℕ). k * step) e ∙ sym (y .is-multiple)

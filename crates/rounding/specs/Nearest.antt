@@ -29,3 +29,10 @@ exact factor most i v f = (i * 10 ^ v + f) * (factor * 10 ^ most)
 -- the multiple of the step, in units of the last fraction place, nearest to the exact value
 abbrev pub unitsOf : ℕ → ℕ → ℕ → ℕ → ℕ → ℕ → ℕ
 unitsOf step factor most i v f = stepsOf (step * 10 ^ v) (exact factor most i v f) * step
+
+-- Document 01's printed value, over every step and scale: it is a whole multiple of the step, no multiple is nearer to the exact value, and of two that
+-- are equally near it is the even one. The exact value is `exact ..` / 10 ^ v units of the last fraction place, so both sides are taken times 10 ^ v.
+pub record Permitted (step factor most i v f units : ℕ) : Type 0 where
+  pub multiple : ℕ
+  pub is-multiple : units ≡ multiple * step
+  pub nearest-even : NearestEven (exact factor most i v f) (step * 10 ^ v) multiple

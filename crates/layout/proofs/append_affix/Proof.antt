@@ -1,6 +1,5 @@
 -- `layout::append_affix` writes item by item. The invariant: what is left to write, written from the place reached on, gives what the whole gives.
 use native.Mathlib.Omega.{arith}
-use mathlib.Core.Path.{_≡_}
 use Prim.Native.Nat.{_≤_, _-_}
 use lib.ListN.{length, drop}
 use Rattle.area.specs.Area.{most}

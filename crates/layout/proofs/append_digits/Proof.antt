@@ -1,10 +1,9 @@
 -- `layout::append_digits` writes digit by digit. The invariant: what is left to write, written from the place reached on, gives what the whole gives.
 use native.Mathlib.Omega.{arith}
-use mathlib.Core.Path.{_≡_}
 use Prim.Native.Nat.{_≤_, _-_}
 use lib.ListN.{length, drop}
 use Rattle.area.specs.Area.{most}
-use Rattle.area.proofs.Pieces.{Left, start, again, done, joined, renamed}
+use Rattle.area.proofs.Pieces.{Left, start, again, done, joined}
 use Rattle.layout.specs.Layout.{grouped}
 use Rattle.layout.proofs.Writing.{grouped-step, grouped-end}
 use borrow.Author.Needs.{needs}

@@ -6,7 +6,7 @@ use lib.ListN.{length}
 use borrow.Author.Tests.{lt-ltb, le-ltb}
 use Rattle.rounding.specs.Nearest.{exact}
 use Rattle.rounding.specs.Limits.{within}
-use Rattle.rounding.proofs.Arithmetic.{Fits, within-fits, scaled-step, rounded-is, digits-exact}
+use Rattle.rounding.proofs.Arithmetic.{within-fits, scaled-step, rounded-is, digits-exact}
 use borrow.Author.Needs.{needs}
 use Rattle.rounding.proofs.round_into.Statement.{statement}
 use Rattle.rounding.proofs.round_into.Tie as tie

@@ -1,7 +1,6 @@
 -- `rounding::scale` goes through the digits from the last on. The invariant: the digits still to come, times m and with what is carried, and those behind them are the whole.
 use native.Mathlib.Omega.{arith}
 use Prim.Native.Nat.{_-_}
-use lib.ListN.{length-set}
 use native.Mathlib.Nat.{mul-le-mul-right}
 use Rattle.rounding.proofs.Arithmetic.{Scaling, scale-start, scale-again, scale-done}
 use borrow.Author.Needs.{needs}

@@ -1,6 +1,5 @@
 -- `rounding::up_by` tests on which side of the half the remainder is.
 use native.Mathlib.Omega.{arith}
-use mathlib.Core.Path.{refl}
 use borrow.Author.Tests.{lt-ltb, le-ltb}
 use borrow.Author.Needs.{needs}
 use Rattle.rounding.proofs.up_by.Statement.{statement}

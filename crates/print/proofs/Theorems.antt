@@ -1,0 +1,134 @@
+-- Theorems of printing: which outcome is given when, the value of the digits shown, what the area holds, and 51's figure.
+use mathlib.Core.Path.{_≡_, refl, sym}
+use mathlib.Core.List.{List, _++_}
+use Prim.Native.Nat.{ℕ, _+_, _≤_, _<_}
+use native.Mathlib.Omega.{arith}
+use borrow.Author.Tests.{lt-ltb, ltb-true, ltb-false}
+use lib.Dec.{ltb}
+use lib.ListN.{length, drop}
+use Rattle.decimal.specs.Digits.{value}
+use Rattle.decimal.proofs.Choices.{tested, choice, never}
+use Rattle.decimal.proofs.Figured.{length-figures, digits-figures}
+use Rattle.answer.specs.declared.Refusal.{Refusal}
+use Rattle.answer.specs.declared.Refusal.the-variants.{AreaTooShort}
+use Rattle.symbols.specs.declared.Judged.{Judged}
+use Rattle.symbols.specs.declared.Judged.the-variants.{Good, Refused as SymbolsRefused}
+use Rattle.symbols.specs.Entries.{readSymbols}
+use Rattle.pattern.specs.declared.Pattern.{Pattern}
+use Rattle.pattern.specs.declared.PatternReading.{PatternReading}
+use Rattle.pattern.specs.declared.PatternReading.the-variants.{Is as PatternIs, Refused as PatternRefused}
+use Rattle.pattern.specs.Reading.{readPattern}
+use Rattle.pattern_grammar.proofs.Bounds.{read-bounds}
+use Rattle.number.specs.declared.Number.{Number}
+use Rattle.number.specs.declared.Reading.{Reading}
+use Rattle.number.specs.declared.Reading.the-variants.{Is as NumberIs, Refused as NumberRefused}
+use Rattle.number.specs.Reading.{readNumber}
+use Rattle.rounding.specs.Nearest.{unitsOf, Permitted}
+use Rattle.rounding.specs.Limits.{width}
+use Rattle.rounding.proofs.Nearest.{units-permitted}
+use Rattle.rounding.proofs.Arithmetic.{within-fits, units-room, value-room}
+use Rattle.layout.specs.Layout.{wholeDigits, fractionDigits}
+use Rattle.layout.specs.Text.{digitsOf}
+use Rattle.layout.specs.Claims.{ShownDigits}
+use Rattle.layout.proofs.Shown.{digits-shown}
+use Rattle.print.specs.declared.Printed.the-variants.{Text, Refused}
+use Rattle.print.specs.Outcome.{Outcome, text, refused, ofNumber, afterNumber, afterPattern, afterSymbols, outcome, tooLong, answerOf, areaOf}
+use Rattle.print.specs.Claims.{Read, Verdict, by-symbols, by-pattern, by-number, by-exponent, prints}
+use Rattle.print.proofs.Ready.{ready-within}
+
+-- ---- "Printing tests symbols, pattern, number, 50": every outcome has its reason
+
+module _ (house s t : List ℕ) where
+  exponent-tested : (p : Pattern) (n : Number) → Read house s t p n → Verdict house s t (ofNumber house s p n)
+  exponent-tested p n x =
+      choice (Verdict house s t) (ltb 0 (n .e)) (λ k. by-exponent p n x (ltb-true 0 (n .e) k)) (λ k. prints p n x (none (ltb-false 0 (n .e) k)))
+    where
+      none : {m : ℕ} → m ≤ 0 → m ≡ 0
+      none h = omega arith
+
+  number-tested : (p : Pattern) → readSymbols house ≡ Good → readPattern s ≡ PatternIs p → (r : Reading) → readNumber t ≡ r → Verdict house s t (afterNumber house s p r)
+  number-tested p eh ep (NumberIs n) en = exponent-tested p n (record { symbols = eh; pattern = ep; number = en })
+  number-tested p eh ep (NumberRefused r) en = by-number r p eh ep en
+
+  pattern-tested : readSymbols house ≡ Good → (r : PatternReading) → readPattern s ≡ r → Verdict house s t (afterPattern house s r t)
+  pattern-tested eh (PatternIs p) ep = number-tested p eh ep (readNumber t) refl
+  pattern-tested eh (PatternRefused r) ep = by-pattern r eh ep
+
+  symbols-tested : (j : Judged) → readSymbols house ≡ j → Verdict house s t (afterSymbols house j s t)
+  symbols-tested Good eh = pattern-tested eh (readPattern s) refl
+  symbols-tested (SymbolsRefused r) eh = by-symbols r eh
+
+  pub verdict-found : Verdict house s t (outcome house s t)
+  verdict-found = symbols-tested (readSymbols house) refl
+
+-- and a reason has no other outcome
+pub verdict-only : (house s t : List ℕ) {o : Outcome} → Verdict house s t o → o ≡ outcome house s t
+verdict-only house s t (by-symbols r e) = rw e
+verdict-only house s t (by-pattern r e f) = rw (e, f)
+verdict-only house s t (by-number r p e f g) = rw (e, f, g)
+verdict-only house s t (by-exponent p n x h) = rw (x .symbols, x .pattern, x .number, lt-ltb 0 (n .e) h)
+verdict-only house s t (prints p n x h) = rw (x .symbols, x .pattern, x .number, h)
+
+-- ---- demand 2's value: the digits of the text are those of the permitted value nearest to the exact one
+
+pub record PrintedValue (p : Pattern) (n : Number) : Type 0 where
+  pub units : ℕ
+  -- a whole multiple of the step, none nearer, a tie at the even one
+  pub permitted : Permitted (p .step) (p .factor) (p .most) (n .i) (n .v .0) (n .f .0) units
+  -- and the digits shown are its
+  pub shown-digits : ShownDigits (p .least) (p .fraction) (p .most) units (wholeDigits (p .least) (p .most) (digitsOf p n)) (fractionDigits (p .fraction) (p .most) (digitsOf p n))
+
+pub printed-value : (house s t : List ℕ) (p : Pattern) (n : Number) → Read house s t p n → PrintedValue p n
+printed-value house s t p n x =
+    let b = read-bounds s p (x .pattern) in
+    let u = unitsOf (p .step) (p .factor) (p .most) (n .i) (n .v .0) (n .f .0) in
+    let fits = within-fits (p .step) (p .factor) (p .most) (n .i) (n .v .0) (n .f .0) (ready-within s t p n (x .pattern) (x .number)) in
+    let worth : value (digitsOf p n) ≡ u = value-room width u (units-room (p .step) (p .factor) (p .most) (n .i) (n .v .0) (n .f .0) fits) in
+    record {
+      units = u;
+      permitted = units-permitted (p .step) (p .factor) (p .most) (n .i) (n .v .0) (n .f .0) (b .step-least);
+      shown-digits = rw worth at (digits-shown (p .least) (p .fraction) (p .most) (digitsOf p n) (digits-figures width u) (room p n u (b .least-most) (b .most-most)) (b .fraction-most));
+    }
+  where
+    room : (p : Pattern) (n : Number) (u : ℕ) → p .least ≤ 15 → p .most ≤ 9 → p .least + p .most ≤ length (digitsOf p n)
+    room q m u h k = rw (length-figures width (unitsOf (q .step) (q .factor) (q .most) (m .i) (m .v .0) (m .f .0))) (omega arith)
+
+-- ---- the area: "A refusal writes nothing; a success writes its text at the front and no byte beyond, and returns its length."
+
+-- 51's figure is the text's length, and the area has fewer bytes
+pub area-short : (t area : List ℕ) (k : ℕ) → answerOf (text t) area ≡ Refused (AreaTooShort k) → (k ≡ length t) × (length area < length t)
+area-short t area k e =
+    tested (tooLong t area)
+    (λ h.
+    let f : Refused (AreaTooShort (length t)) ≡ Refused (AreaTooShort k) = rw h at e in
+    let g : length t ≡ k = cc in
+    (sym g, ltb-true (length area) (length t) h))
+    (λ h.
+    let f : Text (length t) ≡ Refused (AreaTooShort k) = rw h at e in
+    let z : _≡_ {A = ℕ} 0 1 = cc in
+    never z)
+
+-- a success is told by the text's length, and the text stands at the front
+pub area-text : (o : Outcome) (area : List ℕ) (k : ℕ) → answerOf o area ≡ Text k
+    → (t : List ℕ) × (o ≡ text t) × (k ≡ length t) × (areaOf o area ≡ t ++ drop k area)
+area-text (refused r) area k e = let z : _≡_ {A = ℕ} 0 1 = cc in never z
+area-text (text t) area k e =
+    tested (tooLong t area)
+    (λ h.
+    let f : Refused (AreaTooShort (length t)) ≡ Text k = rw h at e in
+    let z : _≡_ {A = ℕ} 0 1 = cc in
+    never z)
+    (λ h.
+    let f : Text (length t) ≡ Text k = rw h at e in
+    let g : length t ≡ k = cc in
+    (t, refl, sym g, rw h (rw g)))
+
+-- a refusal leaves every byte
+pub area-kept : (o : Outcome) (area : List ℕ) (r : Refusal) → answerOf o area ≡ Refused r → areaOf o area ≡ area
+area-kept (refused q) area r e = refl
+area-kept (text t) area r e =
+    tested (tooLong t area) (λ h. rw h)
+    (λ h.
+    let f : Text (length t) ≡ Refused r = rw h at e in
+    let z : _≡_ {A = ℕ} 0 1 = cc in
+    never z)
