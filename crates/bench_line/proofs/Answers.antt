@@ -1,17 +1,26 @@
 -- Laws of an answer's pieces.
-use mathlib.Core.Path.{_≡_, refl, sym, ap, _∙_}
+use mathlib.Core.Path.{_≡_, refl, sym, ap, subst, _∙_}
+use mathlib.Core.Bool.{true, false}
 use mathlib.Core.List.{List, [], _∷_, _++_}
 use Prim.Native.Nat.{ℕ, _+_, _-_, _≤_, _<_, min}
 use native.Mathlib.Omega.{arith}
 use native.Mathlib.Numerals.{add-one}
 use lib.ListN.{length, getD, take, drop, drop-of-length-le, length-take}
-use lib.Seq.{drop-cons, drop-drop, getD-take}
+use lib.Dec.{ltb}
+use lib.Seq.{drop-cons, drop-drop, getD-take, take-at}
 use Rattle.decimal.specs.Digits.{numeral}
 use Rattle.bench_line.specs.Jobs.{jobAt, jobOf}
-use Rattle.bench_line.specs.Lines.{spaced, selectionText, checkText, jobText, jobAnswer}
+use Rattle.bench_line.specs.Lines.{spaced, refusalText, selectionText, checkText, maxOutput, printedText, formatText, jobText, jobAnswer}
 use Rattle.bench_line.specs.declared.JobCut.{JobCut}
-use Rattle.bench_line.specs.declared.JobCut.the-variants.{SelectAt, CheckAt}
+use Rattle.bench_line.specs.declared.JobCut.the-variants.{SelectAt, CheckAt, FormatAt}
 use Rattle.plural.specs.declared.Selection.{Selection}
+use Rattle.answer.specs.declared.Refusal.{Refusal}
+use Rattle.answer.specs.declared.Refusal.the-variants.{AreaTooShort}
+use Rattle.print.specs.Outcome.{Outcome, outcome, answerOf, areaOf}
+use Rattle.print.specs.Outcome.Outcome.{text, refused}
+use Rattle.print.specs.declared.Printed.{Printed}
+use Rattle.print.specs.declared.Printed.the-variants.{Text, Refused as PrintRefused}
+use Rattle.decimal.proofs.Choices.{tested, never}
 use Rattle.select.specs.Select.{selectOf}
 use Rattle.pack_check.specs.Check.{checkPack}
 use Rattle.pack_check.specs.declared.PackCheck.{PackCheck}
@@ -26,8 +35,8 @@ pub spaced-done : (vs : List ℕ) (n k : ℕ) → min n (length vs) ≤ k → sp
 spaced-done vs n k h = rw (drop-of-length-le (take n vs) {i = k} (omega (arith, length-take n vs)))
 
 -- the answer to a line whose job is told by the lengths of its fields
-pub answer-of : (line : List ℕ) (r c : JobCut) (text : List ℕ) → jobAt (drop 2 line) r ≡ jobOf line → r ≡ c → text ≡ jobText (jobAt (drop 2 line) c) → text ≡ jobAnswer line
-answer-of line r c text e q t = t ∙ ap jobText (sym (ap (jobAt (drop 2 line)) q) ∙ e)
+pub answer-of : (line : List ℕ) (r c : JobCut) (written : List ℕ) → jobAt (drop 2 line) r ≡ jobOf line → r ≡ c → written ≡ jobText (jobAt (drop 2 line) c) → written ≡ jobAnswer line
+answer-of line r c written e q t = t ∙ ap jobText (sym (ap (jobAt (drop 2 line)) q) ∙ e)
 
 -- the text of a selection from the line's fields
 pub select-text : (line fields pack behind number : List ℕ) (n : ℕ) (s : Selection) → fields ≡ drop 2 line → pack ≡ take n fields → behind ≡ drop n fields → number ≡ drop 1 behind
@@ -37,3 +46,43 @@ select-text line fields pack behind number n s f p b m e = rw (e, p, m, b, f, dr
 -- and of a check
 pub check-text : (line fields : List ℕ) (c : PackCheck) → fields ≡ drop 2 line → c ≡ checkPack fields → checkText c ≡ jobText (jobAt (drop 2 line) CheckAt)
 check-text line fields c f e = rw (e, f)
+
+-- and of a printed number
+pub format-text : (line fields pattern behind number : List ℕ) (n : ℕ) → fields ≡ drop 2 line → pattern ≡ take n fields → behind ≡ drop n fields → number ≡ drop 1 behind
+    → formatText (outcome [] pattern number) ≡ jobText (jobAt (drop 2 line) (FormatAt n))
+format-text line fields pattern behind number n f p b m = rw (p, m, b, f, drop-drop 1 n (drop 2 line))
+
+-- what stands in the program's output area is the text, where the printer says so
+pub text-answer : (o : Outcome) (area : List ℕ) (n : ℕ) (r : Printed) → length area ≡ maxOutput → r ≡ answerOf o area → r ≡ Text n → printedText (take n (areaOf o area)) ≡ formatText o
+text-answer (refused f) area n r l e t = never (cc)
+text-answer (text s) area n r l e t = tested (ltb (length area) (length s)) long short
+  where
+    long : ltb (length area) (length s) ≡ true → printedText (take n (areaOf (text s) area)) ≡ formatText (text s)
+    long k =
+        let q : r ≡ PrintRefused (AreaTooShort (length s)) = rw k at e in
+        never (cc)
+
+    short : ltb (length area) (length s) ≡ false → printedText (take n (areaOf (text s) area)) ≡ formatText (text s)
+    short k =
+        let q : r ≡ Text (length s) = rw k at e in
+        let same : length s ≡ n = cc in
+        let m : ltb maxOutput (length s) ≡ false = subst (λ (x : ℕ). ltb x (length s) ≡ false) l k in
+        rw (k, m, take-at s (drop (length s) area) n same)
+
+pub refused-answer : (o : Outcome) (area : List ℕ) (f : Refusal) (r : Printed) → length area ≡ maxOutput → r ≡ answerOf o area → r ≡ PrintRefused f → refusalText 102 f ≡ formatText o
+refused-answer (refused g) area f r l e t =
+    let same : f ≡ g = cc in
+    ap (refusalText 102) same
+refused-answer (text s) area f r l e t = tested (ltb (length area) (length s)) long short
+  where
+    long : ltb (length area) (length s) ≡ true → refusalText 102 f ≡ formatText (text s)
+    long k =
+        let q : r ≡ PrintRefused (AreaTooShort (length s)) = rw k at e in
+        let same : f ≡ AreaTooShort (length s) = cc in
+        let m : ltb maxOutput (length s) ≡ true = subst (λ (x : ℕ). ltb x (length s) ≡ true) l k in
+        rw (m, same)
+
+    short : ltb (length area) (length s) ≡ false → refusalText 102 f ≡ formatText (text s)
+    short k =
+        let q : r ≡ Text (length s) = rw k at e in
+        never (cc)

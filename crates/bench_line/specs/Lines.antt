@@ -13,6 +13,9 @@ use Rattle.answer.specs.declared.Keyword.{Keyword}
 use Rattle.answer.specs.declared.Refusal.{Refusal}
 use Rattle.plural.specs.declared.Selection.{Selection}
 use Rattle.plural.specs.declared.Selection.the-variants.{Word, Refused}
+use Rattle.answer.specs.declared.Refusal.the-variants.{AreaTooShort}
+use Rattle.print.specs.Outcome.{Outcome, outcome}
+use Rattle.print.specs.Outcome.Outcome.{text, refused}
 use Rattle.select.specs.Select.{selectOf}
 use Rattle.pack_check.specs.Check.{checkPack}
 use Rattle.pack_check.specs.declared.PackCheck.{PackCheck}
@@ -55,10 +58,23 @@ abbrev pub checkText : PackCheck → List ℕ
 checkText Passes = 99 ∷ 32 ∷ 111 ∷ 107 ∷ 10 ∷ []
 checkText (PackRefused r) = refusalText 99 r
 
+-- "The program's output area has 2,048 bytes."
+abbrev pub maxOutput : ℕ
+maxOutput = 2048
+
+-- `f` and the text
+abbrev pub printedText : List ℕ → List ℕ
+printedText t = ((102 ∷ 32 ∷ []) ++ t) ++ (10 ∷ [])
+
+abbrev pub formatText : Outcome → List ℕ
+formatText (text t) = if ltb maxOutput (length t) then refusalText 102 (AreaTooShort (length t)) else printedText t
+formatText (refused r) = refusalText 102 r
+
+-- "`f`, pattern, number (standard symbols)": the house record is empty
 abbrev pub jobText : Job → List ℕ
 jobText (select pack number) = selectionText (selectOf pack number)
 jobText (check pack) = checkText (checkPack pack)
-jobText (format pattern number) = unread 61
+jobText (format pattern number) = formatText (outcome [] pattern number)
 jobText none = unread 61
 
 -- the answer to a line of at most 8,192 bytes: "any other line, one with a TAB inside a field too, `? 61`"

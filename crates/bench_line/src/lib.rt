@@ -5,17 +5,19 @@
 // is cut into pieces.
 ghost use mathlib.Core.Path.{_≡_};
 ghost use Prim.Native.Nat.{_+_, _≤_, min};
-ghost use mathlib.Core.List.{_∷_};
+ghost use mathlib.Core.List.{[], _∷_};
 ghost use lib.ListN.{take, drop};
 ghost use Rattle.decimal.specs.Digits.{numeral};
 ghost use Rattle.area.specs.Area.{Wrote};
 ghost use Rattle.bench_line.specs.Jobs.{jobOf, jobAt, jobWith, lastField};
-ghost use Rattle.bench_line.specs.Lines.{unread, spaced, refusalText, wordText, selectionText, checkText, jobAnswer};
+ghost use Rattle.bench_line.specs.Lines.{unread, spaced, refusalText, wordText, selectionText, checkText, printedText, formatText, jobAnswer};
+ghost use Rattle.print.specs.Outcome.{outcome};
 use answer::FigureList;
 use answer::Keyword;
 use answer::Refusal;
 use pack_check::PackCheck;
 use plural::Selection;
+use print::Printed;
 ghost use Rattle.bench_line.specs.Stream.{lastCut, cutOf, cutAnswer, Kept};
 
 const MAX_LINE: usize = 8192;
@@ -202,6 +204,27 @@ fn append_check(out: &mut [u8], at: usize, c: PackCheck) -> usize
     }
 }
 
+// Appends `f` and a text.
+fn append_text(out: &mut [u8], at: usize, text: &[u8]) -> usize
+    ensures { λ r. ⌜ Wrote (now (out .entry)) at (printedText (now (text .entry))) (now (out .exit)) r ⌝ }
+{
+    let name = area::append(out, at, b"f ");
+    let end = area::append(out, name, text);
+    area::put(out, end, 10)
+}
+
+// Prints into an area of its own, and appends the text or the refusal.
+fn append_format(out: &mut [u8], at: usize, pattern: &[u8], number: &[u8]) -> usize
+    ensures { λ r. ⌜ Wrote (now (out .entry)) at (formatText (outcome [] (now (pattern .entry)) (now (number .entry)))) (now (out .exit)) r ⌝ }
+{
+    let mut text = [0u8; 2048];
+    let printed = print::print(b"", pattern, number, &mut text);
+    match printed {
+        Printed::Text(n) => append_text(out, at, decimal::cut::upto(&text, n)),
+        Printed::Refused(refusal) => append_refusal(out, at, 102, refusal),
+    }
+}
+
 // Appends the answer to a line of at most MAX_LINE bytes.
 fn append_job(out: &mut [u8], at: usize, line: &[u8]) -> usize
     ensures { λ r. ⌜ Wrote (now (out .entry)) at (jobAnswer (now (line .entry))) (now (out .exit)) r ⌝ }
@@ -218,7 +241,12 @@ fn append_job(out: &mut [u8], at: usize, line: &[u8]) -> usize
             ),
         ),
         JobCut::CheckAt => append_check(out, at, pack_check::check(fields)),
-        JobCut::FormatAt(_) => append_unread(out, at, 61),
+        JobCut::FormatAt(n) => append_format(
+            out,
+            at,
+            decimal::cut::upto(fields, n),
+            decimal::cut::after(decimal::cut::after(fields, n), 1),
+        ),
         JobCut::Unknown => append_unread(out, at, 61),
     }
 }
