@@ -9,7 +9,7 @@ ghost use Rattle.decimal.specs.Choice.{if_then_else_, both, either};
 ghost use Rattle.token.specs.Spelling.{same};
 ghost use Rattle.token.specs.Token.{differ};
 ghost use Rattle.grammar.specs.Limits.{isModulus};
-ghost use Rattle.walk.specs.Steps.{capped, keywordNumber, held, moreOf, moreIf, zeroIf, isClosing, closesAt, countsAfter, keyAfter, currentAfter, nameRow, operandRow, valueRow, upperRow, rowAt, markAfter, walkAfter};
+ghost use Rattle.walk.specs.Steps.{capped, valueAt, keywordNumber, held, moreOf, moreIf, zeroIf, isClosing, closesAt, countsAfter, keyAfter, currentAfter, nameRow, operandRow, valueRow, upperRow, rowAt, markAfter, walkAfter};
 use decimal::cut::upto;
 use decimal::value::value_of;
 use phase::Phase;
@@ -112,6 +112,16 @@ pub fn capped_value(t: &[u8]) -> u32
         return v as u32;
     }
     1_000_001
+}
+
+// The value of the token where the phase has a number next, else 0.
+pub fn value_at(k: u8, t: &[u8]) -> u32
+    ensures { λ r. ⌜ r ≡ valueAt k (now (t .entry)) ⌝ }
+{
+    if or_either(k == 5, or_either(k == 7, k == 9)) {
+        return capped_value(t);
+    }
+    0
 }
 
 fn number_if(t: &[u8], w: &[u8], n: u8, otherwise: u8) -> u8
@@ -341,7 +351,7 @@ pub fn walk_after(t: &[u8], at: usize, keys: &[u8], w: Walk) -> Walk
     let o = w.current;
     let m = w.mark;
     let k = number(p);
-    let v = capped_value(t);
+    let v = value_at(k, t);
     let key = key_after(k, t, o.key);
     let row = row_at(k, key, repeated(k, keys, c.rules, key), v, c, o.low);
     let q = next_phase(p, o.other, t);
