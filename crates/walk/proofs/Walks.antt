@@ -1,16 +1,16 @@
 -- A walk made of parts that are each as defined is the walk as defined.
-use mathlib.Core.Path.{_≡_}
-use mathlib.Core.Bool.{Bool}
+use mathlib.Core.Path.{_≡_, refl}
+use mathlib.Core.Bool.{Bool, true, false}
 use mathlib.Core.List.{List}
 use Prim.Native.Nat.{ℕ}
 use lib.Dec.{eqb}
 use lib.ListN.{take}
-use Rattle.decimal.specs.Choice.{both}
-use Rattle.decimal.proofs.Choices.{tested}
+use Rattle.decimal.specs.Choice.{both, either}
+use Rattle.decimal.proofs.Choices.{tested, not-both}
 use Rattle.grammar.specs.Grammar.{Text}
 use Rattle.phase.specs.Next.{nextPhase, phaseNumber}
 use Rattle.phase.specs.declared.Phase.{Phase}
-use Rattle.walk.specs.Steps.{capped, valueAt, held, closesAt, countsAfter, keyAfter, currentAfter, rowAt, markAfter, walkAfter}
+use Rattle.walk.specs.Steps.{capped, valueAt, held, isClosing, closesAt, countsAfter, keyAfter, currentAfter, rowAt, markAfter, walkAfter}
 use Rattle.walk.specs.declared.Counts.{Counts}
 use Rattle.walk.specs.declared.Closes.{Closes}
 use Rattle.walk.specs.declared.Current.{Current}
@@ -26,6 +26,21 @@ row-value k key again t c low =
 
 current-value : (o : Current) (k : ℕ) (t : Text) (key : ℕ) → currentAfter o k t (valueAt k t) key ≡ currentAfter o k t (capped t) key
 current-value o k t key = tested (eqb k 5) (λ a. rw a) (λ a. tested (eqb k 7) (λ b. rw (a, b)) (λ b. rw (a, b)))
+
+-- ---- what changes nothing
+
+pub counts-same : (c : Counts) (value : Bool) (x : Closes) → either value (either (x .relation) (either (x .clause) (x .rule))) ≡ false → c ≡ countsAfter c value x
+counts-same c true x h = not-both refl h
+counts-same c false x h = go (x .relation) (x .clause) (x .rule) h
+  where
+    go : (p q r : Bool) → either p (either q r) ≡ false → c ≡ countsAfter c false (record { relation = p; clause = q; rule = r })
+    go true q r e = not-both refl e
+    go false true r e = not-both refl e
+    go false false true e = not-both refl e
+    go false false false e = refl
+
+pub closes-none : (k : ℕ) (t : Text) → either (eqb k 2) (isClosing k) ≡ false → record { relation = false; clause = false; rule = false } ≡ closesAt k t
+closes-none k t h = tested (eqb k 2) (λ a. not-both (rw a) h) (λ a. let b : isClosing k ≡ false = rw a at h in rw (a, b))
 
 pub walk-is : (t : Text) (at : ℕ) (keys : List ℕ) (w : Walk) {k v key row : ℕ} {again : Bool} {q : Phase} {x : Closes} {d : Counts} {n : Current} {f : Mark}
     → k ≡ phaseNumber (w .phase) → v ≡ valueAt k t → key ≡ keyAfter k t (w .current .key)

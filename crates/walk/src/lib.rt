@@ -207,8 +207,8 @@ fn is_closing(k: u8) -> bool
     or_either(k == 8, k == 10)
 }
 
-// What the token closes in a phase.
-pub fn closed_by(k: u8, t: &[u8]) -> Closes
+// What the token closes in a phase, by its spelling.
+fn closed_as(k: u8, t: &[u8]) -> Closes
     ensures { λ r. ⌜ r ≡ closesAt k (now (t .entry)) ⌝ }
 {
     let p = is_closing(k);
@@ -223,7 +223,22 @@ pub fn closed_by(k: u8, t: &[u8]) -> Closes
     }
 }
 
-pub fn counts_after(c: Counts, value: bool, x: Closes) -> Counts
+// What the token closes in a phase: nothing where none is being closed, whatever its spelling.
+pub fn closed_by(k: u8, t: &[u8]) -> Closes
+    ensures { λ r. ⌜ r ≡ closesAt k (now (t .entry)) ⌝ }
+{
+    if or_either(k == 2, is_closing(k)) {
+        return closed_as(k, t);
+    }
+    Closes {
+        relation: false,
+        clause: false,
+        rule: false,
+    }
+}
+
+// The counts behind a token, count by count.
+fn counts_each(c: Counts, value: bool, x: Closes) -> Counts
     ensures { λ r. ⌜ r ≡ countsAfter c value x ⌝ }
 {
     Counts {
@@ -235,6 +250,18 @@ pub fn counts_after(c: Counts, value: bool, x: Closes) -> Counts
         joined: zero_if(x.clause, more_if(x.relation, c.joined)),
         parted: zero_if(x.rule, more_if(x.clause, c.parted)),
     }
+}
+
+// Most tokens change no count.
+pub fn counts_after(c: Counts, value: bool, x: Closes) -> Counts
+    ensures { λ r. ⌜ r ≡ countsAfter c value x ⌝ }
+{
+    let a = or_either(x.clause, x.rule);
+    let b = or_either(x.relation, a);
+    if or_either(value, b) {
+        return counts_each(c, value, x);
+    }
+    c
 }
 
 // The sign behind an operand or a modulus.
