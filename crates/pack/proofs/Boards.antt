@@ -1,23 +1,25 @@
 -- Laws of the board: what is made of parts as defined is as defined, and one piece of the text more.
 use mathlib.Core.Path.{_≡_, refl, sym, ap, _∙_}
 use mathlib.Core.Bool.{Bool, true, false}
-use mathlib.Core.List.{List}
+use mathlib.Core.List.{List, []}
 use Prim.Native.Nat.{ℕ, _+_, _-_, _≤_, _<_}
 use native.Mathlib.Omega.{arith}
 use lib.Dec.{eqb, ltb}
-use lib.ListN.{length, take, drop, length-drop}
+use lib.ListN.{length, take, drop, drop-of-length-le, length-drop}
 use lib.Seq.{drop-drop}
+use borrow.Author.Tests.{lt-ltb, le-ltb, ltb-true, ltb-false}
 use Rattle.decimal.specs.Choice.{if_then_else_}
+use Rattle.decimal.proofs.Choices.{tested}
 use Rattle.token.specs.Token.{whiteLen, tokenLen, pieceLen, isWhite, Token, tokens}
 use Rattle.token.proofs.Pieces.{piece, pieced, tokens-turn, no-tokens}
 use Rattle.grammar.specs.Grammar.{Text, semi}
 use Rattle.phase.specs.Next.{phaseNumber}
-use Rattle.walk.specs.Steps.{capped, closesAt, countsAfter, walkAfter}
+use Rattle.walk.specs.Steps.{capped, valueAt, closesAt, countsAfter, walkAfter}
 use Rattle.walk.specs.declared.Counts.{Counts}
 use Rattle.walk.specs.declared.Closes.{Closes}
 use Rattle.walk.specs.declared.Current.{Current}
 use Rattle.walk.specs.declared.Walk.{Walk}
-use Rattle.pack.specs.Board.{Arrays, arraysOf, setIf, filled, Board, boardAfter, boards, startWalk, judged, counted, Sized, lastBoard, packOf, ReadOf}
+use Rattle.pack.specs.Board.{Arrays, arraysOf, setIf, filled, Board, tokenAt, boardAfter, boards, startWalk, judged, counted, Sized, lastBoard, packOf, ReadOf}
 use Rattle.pack.specs.declared.Verdict.{Verdict}
 
 pub filled-is : (k v : ℕ) (x : Closes) (c d : Counts) (o : Current) (a : Arrays) {low high operand modulus ranges relations keyword clauses : List ℕ} {negated : List Bool}
@@ -33,11 +35,18 @@ pub filled-is : (k v : ℕ) (x : Closes) (c d : Counts) (o : Current) (a : Array
     → arraysOf low high operand modulus negated ranges relations keyword clauses ≡ filled k v x c d o a
 filled-is k v x c d o a e1 e2 e3 e4 e5 e6 e7 e8 e9 = rw (e1, e2, e3, e4, e5, e6, e7, e8, e9)
 
-pub board-is : (b : Board) (t : Text) (at : ℕ) {k v : ℕ} {x : Closes} {d : Counts} {q : Walk} {a : Arrays}
-    → k ≡ phaseNumber (b .walk .phase) → v ≡ capped t → x ≡ closesAt k t → d ≡ countsAfter (b .walk .counts) (eqb k 7) x
-    → q ≡ walkAfter t at (b .arrays .keyword) (b .walk) → a ≡ filled k v x (b .walk .counts) d (b .walk .current) (b .arrays)
-    → record { walk = q; arrays = a } ≡ boardAfter b t at
-board-is b t at hk hv hx hd hq ha = rw (hq, ha, hd, hx, hv, hk)
+-- only a phase that has a number next looks at the value
+filled-value : (k : ℕ) (t : Text) (x : Closes) (c d : Counts) (o : Current) (a : Arrays) → filled k (valueAt k t) x c d o a ≡ filled k (capped t) x c d o a
+filled-value k t x c d o a =
+    tested (eqb k 5) (λ p. rw p) (λ p. tested (eqb k 7) (λ q. rw (p, q)) (λ q. tested (eqb k 9) (λ r. rw (p, q, r)) (λ r. rw (p, q, r))))
+
+pub board-is : (b : Board) (t : Text) (at : ℕ) {k v : ℕ} {x : Closes} {q : Walk} {a : Arrays}
+    → k ≡ phaseNumber (b .walk .phase) → v ≡ valueAt k t → x ≡ closesAt k t → q ≡ walkAfter t at (b .arrays .keyword) (b .walk)
+    → a ≡ filled k v x (b .walk .counts) (q .counts) (b .walk .current) (b .arrays) → record { walk = q; arrays = a } ≡ boardAfter b t at
+board-is b t at hk hv hx hq ha =
+    let w = b .walk in
+    let k = phaseNumber (w .phase) in
+    rw (ha, hq, hx, hv, hk, filled-value k t (closesAt k t) (w .counts) (countsAfter (w .counts) (eqb k 7) (closesAt k t)) (w .current) (b .arrays))
 
 -- ---- one piece more
 
@@ -68,14 +77,53 @@ turn b e s at white m he hw hm h =
 pub done : (b : Board) (s : Text) (at : ℕ) → length s ≤ at → boards b (tokens at (drop at s)) ≡ b
 done b s at h = ap (boards b) (no-tokens (length (drop at s)) at (drop at s) (omega (arith, length-drop at s)))
 
+-- ---- one turn of the loop: a piece, or the end behind the text
+
+-- the board when all that is left has been taken: the tokens from a place on and the end; behind the end, nothing
+abbrev pub ahead : Text → Text → ℕ → Board → Board
+ahead s end at b = if ltb (length s) at then b else boardAfter (boards b (tokens at (drop at s))) end (length s)
+
+pub record Stepped (b e : Board) (s end : Text) (at m : ℕ) : Type 0 where
+  pub rest : ahead s end (at + m) e ≡ ahead s end at b
+  pub some : 0 < m
+  pub within : at + m ≤ length s + 1
+
+pub starting : (s end : Text) (a : Arrays) (w : Walk) → w ≡ startWalk
+    → ahead s end 0 (record { walk = w; arrays = a }) ≡ boardAfter (boards (record { walk = startWalk; arrays = a }) (tokens 0 s)) end (length s)
+starting s end a w h = rw (le-ltb (length s) 0 (omega arith)) (ap (λ (x : Walk). boardAfter (boards (record { walk = x; arrays = a }) (tokens 0 s)) end (length s)) h)
+
+last : (b e : Board) (s end : Text) (at white m : ℕ) → e ≡ (if ltb 0 white then b else boardAfter b (tokenAt s end at m) at)
+    → white ≡ whiteLen (drop at s) → m ≡ (if ltb 0 white then white else tokenLen (drop at s)) → at ≡ length s → Stepped b e s end at m
+last b e s end at white m he hw hm h =
+    let u : drop at s ≡ [] = drop-of-length-le s {i = at} (omega arith) in
+    let z : white ≡ 0 = hw ∙ ap whiteLen u in
+    let one : m ≡ 1 = hm ∙ rw (z, u) in
+    let f : e ≡ boardAfter b end at = he ∙ rw (z, le-ltb at (length s) (omega arith)) in
+    record {
+      rest =
+          rw (lt-ltb (length s) (at + m) (omega arith), le-ltb (length s) at (omega arith))
+          (f ∙ ap (boardAfter b end) h ∙ sym (ap (λ (x : Board). boardAfter x end (length s)) (done b s at (omega arith))));
+      some = omega arith;
+      within = omega arith;
+    }
+
+pub step : (b e : Board) (s end : Text) (at white m : ℕ) → e ≡ (if ltb 0 white then b else boardAfter b (tokenAt s end at m) at)
+    → white ≡ whiteLen (drop at s) → m ≡ (if ltb 0 white then white else tokenLen (drop at s)) → at ≤ length s → Stepped b e s end at m
+step b e s end at white m he hw hm h =
+    tested (ltb at (length s))
+    (λ q. let z = turn b e s at white m (rw q at he) hw hm (ltb-true at (length s) q) in
+    record {
+      rest = rw (le-ltb (length s) (at + m) (z .within), le-ltb (length s) at h) (ap (λ (x : Board). boardAfter x end (length s)) (z .rest));
+      some = z .some;
+      within = omega (arith, z .within);
+    })
+    (λ q. last b e s end at white m he hw hm (omega (arith, ltb-false at (length s) q)))
+
 -- ---- the whole pack
 
-pub read-of : (s : Text) {a b e : Arrays} {w u : Walk} {v : Verdict} {n : ℕ} → Sized a
-    → record { walk = w; arrays = b } ≡ boards (record { walk = startWalk; arrays = a }) (tokens 0 s)
-    → record { walk = u; arrays = e } ≡ boardAfter (record { walk = w; arrays = b }) semi (length s)
+pub read-of : (s : Text) {a e : Arrays} {u : Walk} {v : Verdict} {n : ℕ} → Sized a → record { walk = u; arrays = e } ≡ lastBoard a s
     → v ≡ judged u → n ≡ counted v (u .counts .rules) → ReadOf (record { verdict = v; pack = packOf e n }) s
-read-of s {a} {b} {e} {w} {u} {v} {n} z h1 h2 hv hn =
-    let q : record { walk = u; arrays = e } ≡ lastBoard a s = h2 ∙ ap (λ (x : Board). boardAfter x semi (length s)) h1 in
+read-of s {a} {e} {u} {v} {n} z q hv hn =
     let k : v ≡ judged (lastBoard a s .walk) = hv ∙ ap (λ (x : Board). judged (x .walk)) q in
     record {
       from = a;

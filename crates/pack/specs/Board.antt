@@ -4,8 +4,8 @@ use mathlib.Core.Path.{_≡_}
 use mathlib.Core.Bool.{Bool, false}
 use mathlib.Core.List.{List, [], _∷_}
 use Prim.Native.Nat.{ℕ, _-_}
-use lib.Dec.{eqb}
-use lib.ListN.{length, set}
+use lib.Dec.{eqb, ltb}
+use lib.ListN.{length, take, drop, set}
 use Rattle.decimal.specs.Choice.{if_then_else_}
 use Rattle.answer.specs.declared.PackRow.the-variants.{NotAPack}
 use Rattle.answer.specs.declared.Refusal.the-variants.{Pack as OfPack}
@@ -98,6 +98,10 @@ boardAfter b t at =
 abbrev pub boards : Board → List Token → Board
 boards b [] = b
 boards b (t ∷ ts) = boards (boardAfter b (t .text) (t .at)) ts
+
+-- the token of m bytes at a place of a text; behind the text, its end
+abbrev pub tokenAt : Text → Text → ℕ → ℕ → Text
+tokenAt s end at m = if ltb at (length s) then take m (drop at s) else end
 
 -- ---- at the pack's end, behind a last `;`: a rule has been closed there, or nothing could follow
 

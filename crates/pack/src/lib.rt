@@ -5,8 +5,8 @@
 // specs/Board.antt says how a token changes the arrays.
 ghost use mathlib.Core.Path.{_≡_};
 ghost use lib.Dec.{eqb, ltb};
-ghost use lib.ListN.{take, drop, set};
-ghost use Prim.Native.Nat.{_-_};
+ghost use lib.ListN.{length};
+ghost use Prim.Native.Nat.{_-_, _≤_};
 ghost use Rattle.decimal.specs.Choice.{if_then_else_};
 ghost use Rattle.token.specs.Token.{tokens};
 ghost use Rattle.rules.specs.Held.{heldRules};
@@ -14,7 +14,7 @@ ghost use Rattle.grammar.specs.Reader.{rowOf, readPack};
 ghost use Rattle.phase.specs.Next.{phaseNumber};
 ghost use Rattle.walk.specs.Steps.{capped, closesAt, countsAfter};
 ghost use Rattle.pack.specs.Answer.{verdictOf, rulesOf};
-ghost use Rattle.pack.specs.Board.{arraysOf, boardOf, setIf, filled, boardAfter, boards, startWalk, faultVerdict, judged, counted, ReadOf};
+ghost use Rattle.pack.specs.Board.{arraysOf, boardOf, setIf, filled, tokenAt, boardAfter, boards, startWalk, faultVerdict, judged, counted, ReadOf};
 use answer::PackRow;
 use answer::Place;
 use answer::Refusal;
@@ -30,9 +30,8 @@ use walk::Counts;
 use walk::Current;
 use walk::Mark;
 use walk::Walk;
-use walk::capped_value;
 use walk::closed_by;
-use walk::counts_after;
+use walk::value_at;
 use walk::walk_after;
 
 const MAX_BYTES: usize = 4096;
@@ -158,10 +157,10 @@ fn take_token(
     let c = w.counts;
     let o = w.current;
     let k = number(p);
-    let v = capped_value(t);
+    let v = value_at(k, t);
     let x = closed_by(k, t);
-    let d = counts_after(c, k == 7, x);
     let q = walk_after(t, at, keyword, w);
+    let d = q.counts;
     fill(
         k,
         v,
@@ -182,10 +181,21 @@ fn take_token(
     q
 }
 
-// One piece of m bytes at a place: white space changes nothing.
-fn take_piece(
+// The token of m bytes at a place of s; behind s, its end.
+fn token_at<'a>(s: &'a [u8], end: &'a [u8], at: usize, m: usize) -> &'a [u8]
+    ensures { λ r. ⌜ now r ≡ tokenAt (now (s .entry)) (now (end .entry)) at m ⌝ }
+{
+    if at < s.len() {
+        return upto(after(s, at), m);
+    }
+    end
+}
+
+// One piece of m bytes at a place, or the end behind s: white space changes nothing.
+fn take_piece<'a>(
     white: usize,
-    s: &[u8],
+    s: &'a [u8],
+    end: &'a [u8],
     at: usize,
     m: usize,
     w: Walk,
@@ -201,13 +211,13 @@ fn take_piece(
 ) -> Walk
     ensures { λ r. ⌜ boardOf r (now (low .exit)) (now (high .exit)) (now (operand .exit)) (now (modulus .exit)) (now (negated .exit)) (now (ranges .exit)) (now (relations .exit)) (now (keyword .exit)) (now (clauses .exit))
         ≡ (if ltb 0 white then boardOf w (now (low .entry)) (now (high .entry)) (now (operand .entry)) (now (modulus .entry)) (now (negated .entry)) (now (ranges .entry)) (now (relations .entry)) (now (keyword .entry)) (now (clauses .entry))
-        else boardAfter (boardOf w (now (low .entry)) (now (high .entry)) (now (operand .entry)) (now (modulus .entry)) (now (negated .entry)) (now (ranges .entry)) (now (relations .entry)) (now (keyword .entry)) (now (clauses .entry))) (take m (drop at (now (s .entry)))) at) ⌝ }
+        else boardAfter (boardOf w (now (low .entry)) (now (high .entry)) (now (operand .entry)) (now (modulus .entry)) (now (negated .entry)) (now (ranges .entry)) (now (relations .entry)) (now (keyword .entry)) (now (clauses .entry))) (tokenAt (now (s .entry)) (now (end .entry)) at m) at) ⌝ }
 {
     if 0 < white {
         return w;
     }
     take_token(
-        upto(after(s, at), m),
+        token_at(s, end, at, m),
         at,
         w,
         low,
@@ -252,9 +262,10 @@ fn start() -> Walk
     }
 }
 
-// All tokens of a pack.
-fn read_tokens(
-    s: &[u8],
+// All tokens of a pack, and its end as one more.
+fn read_tokens<'a>(
+    s: &'a [u8],
+    end: &'a [u8],
     low: &mut [u32; 2048],
     high: &mut [u32; 2048],
     operand: &mut [u8; 320],
@@ -265,17 +276,19 @@ fn read_tokens(
     keyword: &mut [u8; 6],
     clauses: &mut [usize; 6],
 ) -> Walk
+    requires { ⌜ length (now s) ≤ 4096 ⌝ }
     ensures { λ r. ⌜ boardOf r (now (low .exit)) (now (high .exit)) (now (operand .exit)) (now (modulus .exit)) (now (negated .exit)) (now (ranges .exit)) (now (relations .exit)) (now (keyword .exit)) (now (clauses .exit))
-        ≡ boards (boardOf startWalk (now (low .entry)) (now (high .entry)) (now (operand .entry)) (now (modulus .entry)) (now (negated .entry)) (now (ranges .entry)) (now (relations .entry)) (now (keyword .entry)) (now (clauses .entry))) (tokens 0 (now (s .entry))) ⌝ }
+        ≡ boardAfter (boards (boardOf startWalk (now (low .entry)) (now (high .entry)) (now (operand .entry)) (now (modulus .entry)) (now (negated .entry)) (now (ranges .entry)) (now (relations .entry)) (now (keyword .entry)) (now (clauses .entry))) (tokens 0 (now (s .entry)))) (now (end .entry)) (length (now (s .entry))) ⌝ }
 {
     let mut w = start();
     let mut at = 0;
-    while at < s.len() {
+    while at <= s.len() {
         let white = white_len(s, at);
         let m = piece_len(s, at, white);
         w = take_piece(
             white,
             s,
+            end,
             at,
             m,
             w,
@@ -364,6 +377,7 @@ fn empty() -> Pack
 
 // A pack of at most 4,096 bytes.
 fn read_short(s: &[u8]) -> PackReading
+    requires { ⌜ length (now s) ≤ 4096 ⌝ }
     ensures { λ r. ⌜ ReadOf r (now (s .entry)) ⌝ }
 {
     let mut low = [0u32; 2048];
@@ -375,23 +389,9 @@ fn read_short(s: &[u8]) -> PackReading
     let mut relations = [0usize; 40];
     let mut keyword = [0u8; 6];
     let mut clauses = [0usize; 6];
-    let n = s.len();
     let w = read_tokens(
         s,
-        &mut low,
-        &mut high,
-        &mut operand,
-        &mut modulus,
-        &mut negated,
-        &mut ranges,
-        &mut relations,
-        &mut keyword,
-        &mut clauses,
-    );
-    let e = take_token(
         b";",
-        n,
-        w,
         &mut low,
         &mut high,
         &mut operand,
@@ -402,8 +402,8 @@ fn read_short(s: &[u8]) -> PackReading
         &mut keyword,
         &mut clauses,
     );
-    let c = e.counts;
-    let v = judge(e);
+    let c = w.counts;
+    let v = judge(w);
     let count = count_of(v, c.rules);
     PackReading {
         verdict: v,

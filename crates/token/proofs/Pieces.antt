@@ -5,15 +5,15 @@ use mathlib.Core.List.{List, [], _∷_}
 use Prim.Native.Nat.{ℕ, zero, suc, _+_, _-_, _≤_, _<_}
 use native.Mathlib.Omega.{arith}
 use native.Mathlib.Numerals.{add-one}
-use lib.Dec.{eqb}
+use lib.Dec.{eqb, ltb}
 use lib.ListN.{length, getD, take, drop, drop-of-length-le, length-drop}
 use lib.Seq.{drop-cons}
-use borrow.Author.Tests.{eq-eqb, ne-eqb, eqb-false, ltb-true}
+use borrow.Author.Tests.{eq-eqb, ne-eqb, eqb-false, ltb-true, ltb-false}
 use Rattle.decimal.specs.Choice.{if_then_else_}
 use Rattle.decimal.specs.Digits.{isDigit, run}
-use Rattle.decimal.proofs.Choices.{choice, tested}
+use Rattle.decimal.proofs.Choices.{choice, tested, not-both}
 use Rattle.decimal.proofs.Runs.{run-le}
-use Rattle.token.specs.Spelling.{starts}
+use Rattle.token.specs.Spelling.{starts, lengthOf}
 use Rattle.token.specs.Token.{whites, whiteLen, isWhite, isLetter, letters, dots, differ, tokenLen, pieceLen, Token, tokensFor, tokens}
 use Rattle.token.proofs.Spellings.{starts-le, length-of-le}
 
@@ -31,6 +31,44 @@ letters-out s i h = rw (drop-of-length-le s h)
 letters-le : (s : List ℕ) → letters s ≤ length s
 letters-le [] = omega arith
 letters-le (b ∷ s) = tested (isLetter b) (λ k. rw k (omega (arith, letters-le s))) (λ k. rw k (omega arith))
+
+-- ---- white space by its first byte: one byte, none, or one of the longer spellings
+
+abbrev pub isBlank : ℕ → Bool
+isBlank b = if ltb b 9 then false else if ltb b 14 then true else eqb b 32
+
+other : (b k : ℕ) → isBlank b ≡ false → isBlank k ≡ true → eqb b k ≡ false
+other b k h e = ne-eqb b k (λ q. not-both e (sym (ap isBlank q) ∙ h))
+
+blank-byte : (b : ℕ) → isBlank b ≡ true → (P : Type 0) → (eqb b 9 ≡ false → eqb b 10 ≡ false → eqb b 11 ≡ false → eqb b 12 ≡ false → eqb b 13 ≡ false → eqb b 32 ≡ false → P)
+blank-byte b h P e9 e10 e11 e12 e13 e32 =
+    tested (ltb b 9) (λ e. not-both h (rw e))
+    (λ e. tested (ltb b 14)
+    (λ f. absurd (no (ltb-false b 9 e) (ltb-true b 14 f) (eqb-false b 9 e9) (eqb-false b 10 e10) (eqb-false b 11 e11) (eqb-false b 12 e12) (eqb-false b 13 e13)))
+    (λ f. not-both h (rw (e, f, e32))))
+  where
+    no : 9 ≤ b → b < 14 → (b ≡ 9 → ⊥) → (b ≡ 10 → ⊥) → (b ≡ 11 → ⊥) → (b ≡ 12 → ⊥) → (b ≡ 13 → ⊥) → ⊥
+    no l m n9 n10 n11 n12 n13 = omega arith
+
+pub blank : (t : List ℕ) → isBlank (getD t 0 0) ≡ true → whiteLen t ≡ 1
+blank [] h = not-both h refl
+blank (b ∷ t) h =
+    tested (eqb b 9) (λ e. rw e)
+    (λ e9. tested (eqb b 10) (λ e. rw (e9, e))
+    (λ e10. tested (eqb b 11) (λ e. rw (e9, e10, e))
+    (λ e11. tested (eqb b 12) (λ e. rw (e9, e10, e11, e))
+    (λ e12. tested (eqb b 13) (λ e. rw (e9, e10, e11, e12, e))
+    (λ e13. tested (eqb b 32) (λ e. rw (e9, e10, e11, e12, e13, e)) (λ e32. blank-byte b h _ e9 e10 e11 e12 e13 e32))))))
+
+pub plain : (t : List ℕ) → isBlank (getD t 0 0) ≡ false → getD t 0 0 < 128 → whiteLen t ≡ 0
+plain [] h l = refl
+plain (b ∷ t) h l =
+    rw (other b 9 h refl, other b 10 h refl, other b 11 h refl, other b 12 h refl, other b 13 h refl, other b 32 h refl, ne-eqb b 194 (λ e. omega arith), ne-eqb b 226 (λ e. omega arith))
+
+pub wide : (t : List ℕ) → 128 ≤ getD t 0 0 → whiteLen t ≡ lengthOf (drop 6 whites) t
+wide [] h = absurd (omega arith)
+wide (b ∷ t) h =
+    rw (ne-eqb b 9 (λ e. omega arith), ne-eqb b 10 (λ e. omega arith), ne-eqb b 11 (λ e. omega arith), ne-eqb b 12 (λ e. omega arith), ne-eqb b 13 (λ e. omega arith), ne-eqb b 32 (λ e. omega arith))
 
 -- ---- how long a piece is
 

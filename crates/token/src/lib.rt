@@ -3,12 +3,13 @@
 // specs/Token.antt says what the tokens of a text are. Every function is total: it takes any bytes
 // and any place.
 ghost use mathlib.Core.Path.{_≡_};
+ghost use mathlib.Core.Bool.{true, false};
 ghost use Prim.Native.Nat.{_≤_};
-ghost use lib.Dec.{ltb};
+ghost use lib.Dec.{eqb, ltb};
 ghost use lib.ListN.{length, getD, drop};
 ghost use Rattle.decimal.specs.Choice.{if_then_else_};
-ghost use Rattle.token.specs.Spelling.{same, starts};
-ghost use Rattle.token.specs.Token.{whiteLen, isLetter, letters, tokenLen, pieceLen};
+ghost use Rattle.token.specs.Spelling.{same, starts, lengthOf};
+ghost use Rattle.token.specs.Token.{whites, whiteLen, isLetter, letters, tokenLen, pieceLen};
 use decimal::cut::after;
 use decimal::scan::digit_run;
 use decimal::scan::is_digit;
@@ -52,21 +53,52 @@ fn length_at(s: &[u8], at: usize, w: &[u8], otherwise: usize) -> usize
     otherwise
 }
 
-// How long the white space at a place is: one code point, or 0.
-pub fn white_len(s: &[u8], at: usize) -> usize
-    ensures { λ r. ⌜ r ≡ whiteLen (drop at (now (s .entry))) ⌝ }
+// The first byte of a text, or 0.
+pub fn first_byte(s: &[u8]) -> u8
+    ensures { λ r. ⌜ r ≡ getD (now (s .entry)) 0 0 ⌝ }
+{
+    if 0 < s.len() {
+        return s[0];
+    }
+    0
+}
+
+// The white space of one byte: 09 to 0D and 20.
+fn is_blank(b: u8) -> bool
+    ensures { λ r. ⌜ r ≡ (if ltb b 9 then false else if ltb b 14 then true else eqb b 32) ⌝ }
+{
+    if b < 9 {
+        return false;
+    }
+    if b < 14 {
+        return true;
+    }
+    b == 32
+}
+
+// How long the white space of several bytes at a place is, or 0.
+fn wide_len(s: &[u8], at: usize) -> usize
+    ensures { λ r. ⌜ r ≡ lengthOf (drop 6 whites) (drop at (now (s .entry))) ⌝ }
 {
     let a = length_at(s, at, b"\xE2\x80\xA9", 0);
     let b = length_at(s, at, b"\xE2\x80\xA8", a);
     let c = length_at(s, at, b"\xE2\x80\x8F", b);
     let d = length_at(s, at, b"\xE2\x80\x8E", c);
-    let e = length_at(s, at, b"\xC2\x85", d);
-    let f = length_at(s, at, b"\x20", e);
-    let g = length_at(s, at, b"\x0D", f);
-    let h = length_at(s, at, b"\x0C", g);
-    let i = length_at(s, at, b"\x0B", h);
-    let j = length_at(s, at, b"\x0A", i);
-    length_at(s, at, b"\x09", j)
+    length_at(s, at, b"\xC2\x85", d)
+}
+
+// How long the white space at a place is: one code point, or 0.
+pub fn white_len(s: &[u8], at: usize) -> usize
+    ensures { λ r. ⌜ r ≡ whiteLen (drop at (now (s .entry))) ⌝ }
+{
+    let b = first_byte(after(s, at));
+    if is_blank(b) {
+        return 1;
+    }
+    if b < 128 {
+        return 0;
+    }
+    wide_len(s, at)
 }
 
 pub fn is_letter(b: u8) -> bool
@@ -91,16 +123,6 @@ fn letter_run(s: &[u8]) -> usize
         }
     }
     i
-}
-
-// The first byte of a text, or 0.
-pub fn first_byte(s: &[u8]) -> u8
-    ensures { λ r. ⌜ r ≡ getD (now (s .entry)) 0 0 ⌝ }
-{
-    if 0 < s.len() {
-        return s[0];
-    }
-    0
 }
 
 // How long the token is that s begins with.

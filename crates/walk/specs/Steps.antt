@@ -26,6 +26,10 @@ use Rattle.walk.specs.declared.Walk.{Walk}
 abbrev pub capped : Text → ℕ
 capped t = min (value t) 1000001
 
+-- the token's value where the phase has a number next: a modulus, a value or the upper end of a range; else 0
+abbrev pub valueAt : ℕ → Text → ℕ
+valueAt k t = if either (eqb k 5) (either (eqb k 7) (eqb k 9)) then capped t else 0
+
 -- the keyword's number, in document 01's order; 6 of any other word
 abbrev pub keywordNumber : Text → ℕ
 keywordNumber t =

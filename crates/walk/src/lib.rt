@@ -9,7 +9,7 @@ ghost use Rattle.decimal.specs.Choice.{if_then_else_, both, either};
 ghost use Rattle.token.specs.Spelling.{same};
 ghost use Rattle.token.specs.Token.{differ};
 ghost use Rattle.grammar.specs.Limits.{isModulus};
-ghost use Rattle.walk.specs.Steps.{capped, keywordNumber, held, moreOf, moreIf, zeroIf, isClosing, closesAt, countsAfter, keyAfter, currentAfter, nameRow, operandRow, valueRow, upperRow, rowAt, markAfter, walkAfter};
+ghost use Rattle.walk.specs.Steps.{capped, valueAt, keywordNumber, held, moreOf, moreIf, zeroIf, isClosing, closesAt, countsAfter, keyAfter, currentAfter, nameRow, operandRow, valueRow, upperRow, rowAt, markAfter, walkAfter};
 use decimal::cut::upto;
 use decimal::value::value_of;
 use phase::Phase;
@@ -114,6 +114,16 @@ pub fn capped_value(t: &[u8]) -> u32
     1_000_001
 }
 
+// The value of the token where the phase has a number next, else 0.
+pub fn value_at(k: u8, t: &[u8]) -> u32
+    ensures { λ r. ⌜ r ≡ valueAt k (now (t .entry)) ⌝ }
+{
+    if or_either(k == 5, or_either(k == 7, k == 9)) {
+        return capped_value(t);
+    }
+    0
+}
+
 fn number_if(t: &[u8], w: &[u8], n: u8, otherwise: u8) -> u8
     ensures { λ r. ⌜ r ≡ (if same (now (t .entry)) (now (w .entry)) then n else otherwise) ⌝ }
 {
@@ -197,8 +207,8 @@ fn is_closing(k: u8) -> bool
     or_either(k == 8, k == 10)
 }
 
-// What the token closes in a phase.
-pub fn closed_by(k: u8, t: &[u8]) -> Closes
+// What the token closes in a phase, by its spelling.
+fn closed_as(k: u8, t: &[u8]) -> Closes
     ensures { λ r. ⌜ r ≡ closesAt k (now (t .entry)) ⌝ }
 {
     let p = is_closing(k);
@@ -213,7 +223,22 @@ pub fn closed_by(k: u8, t: &[u8]) -> Closes
     }
 }
 
-pub fn counts_after(c: Counts, value: bool, x: Closes) -> Counts
+// What the token closes in a phase: nothing where none is being closed, whatever its spelling.
+pub fn closed_by(k: u8, t: &[u8]) -> Closes
+    ensures { λ r. ⌜ r ≡ closesAt k (now (t .entry)) ⌝ }
+{
+    if or_either(k == 2, is_closing(k)) {
+        return closed_as(k, t);
+    }
+    Closes {
+        relation: false,
+        clause: false,
+        rule: false,
+    }
+}
+
+// The counts behind a token, count by count.
+fn counts_each(c: Counts, value: bool, x: Closes) -> Counts
     ensures { λ r. ⌜ r ≡ countsAfter c value x ⌝ }
 {
     Counts {
@@ -225,6 +250,18 @@ pub fn counts_after(c: Counts, value: bool, x: Closes) -> Counts
         joined: zero_if(x.clause, more_if(x.relation, c.joined)),
         parted: zero_if(x.rule, more_if(x.clause, c.parted)),
     }
+}
+
+// Most tokens change no count.
+pub fn counts_after(c: Counts, value: bool, x: Closes) -> Counts
+    ensures { λ r. ⌜ r ≡ countsAfter c value x ⌝ }
+{
+    let a = or_either(x.clause, x.rule);
+    let b = or_either(x.relation, a);
+    if or_either(value, b) {
+        return counts_each(c, value, x);
+    }
+    c
 }
 
 // The sign behind an operand or a modulus.
@@ -341,7 +378,7 @@ pub fn walk_after(t: &[u8], at: usize, keys: &[u8], w: Walk) -> Walk
     let o = w.current;
     let m = w.mark;
     let k = number(p);
-    let v = capped_value(t);
+    let v = value_at(k, t);
     let key = key_after(k, t, o.key);
     let row = row_at(k, key, repeated(k, keys, c.rules, key), v, c, o.low);
     let q = next_phase(p, o.other, t);

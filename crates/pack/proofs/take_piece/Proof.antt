@@ -1,6 +1,5 @@
 -- `take_piece` goes by whether there is white space.
 use borrow.Author.Tests.{lt-ltb, le-ltb}
-use mathlib.Core.Path.{_∙_, ap, sym}
 use borrow.Author.Needs.{needs}
 use Rattle.pack.proofs.take_piece.Statement.{statement}
 use Rattle.pack.proofs.take_piece.Tie as tie
@@ -8,18 +7,14 @@ use Rattle.pack.proofs.take_piece.Tie as tie
 returns : tie.Need-returns
 returns c = rw (lt-ltb _ _ (c .if1 .taken))
 
-after-requires : tie.Need-after-requires
-after-requires c κs = search needs
-
-upto-requires : tie.Need-upto-requires
-upto-requires c κs = search needs
+token-at-requires : tie.Need-token-at-requires
+token-at-requires c κs = search needs
 
 take-token-requires : tie.Need-take-token-requires
 take-token-requires c κs = search needs
 
 returns-2 : tie.Need-returns-2
-returns-2 c = rw (le-ltb _ _ (c .before .before .before .before .before .before .before .before .before .before .before .before .if1 .left), ← (c .before .before .before .before .before .before .before .before .before .before .before .after .ensures), ← (c .before .before .before .before .before .before .before .before .before .before .upto .ensures)) (c .take-token .ensures)
+returns-2 c = rw (le-ltb _ _ (c .before .before .before .before .before .before .before .before .before .before .before .if1 .left), ← (c .before .before .before .before .before .before .before .before .before .before .token-at .ensures)) (c .take-token .ensures)
 
 pub take-piece-spec : {M : Type 1} → statement M
-take-piece-spec =
-    tie.close (tie.spec returns after-requires upto-requires take-token-requires returns-2)
+take-piece-spec = tie.close (tie.spec returns token-at-requires take-token-requires returns-2)

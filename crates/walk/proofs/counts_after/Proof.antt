@@ -1,53 +1,36 @@
--- `counts_after` is the definition, field by field.
+-- `counts_after` goes by whether the token is a value or closes anything.
+use Rattle.walk.proofs.Walks.{counts-same}
 use borrow.Author.Needs.{needs}
 use Rattle.walk.proofs.counts_after.Statement.{statement}
 use Rattle.walk.proofs.counts_after.Tie as tie
 
-more-if-requires : tie.Need-more-if-requires
-more-if-requires c κs = search needs
+or-either-requires : tie.Need-or-either-requires
+or-either-requires c κs = search needs
 
-more-if-requires-2 : tie.Need-more-if-requires-2
-more-if-requires-2 c κs = search needs
+or-either-requires-2 : tie.Need-or-either-requires-2
+or-either-requires-2 c κs = search needs
 
-more-if-requires-3 : tie.Need-more-if-requires-3
-more-if-requires-3 c κs = search needs
+or-either-requires-3 : tie.Need-or-either-requires-3
+or-either-requires-3 c κs = search needs
 
-more-if-requires-4 : tie.Need-more-if-requires-4
-more-if-requires-4 c κs = search needs
-
-more-if-requires-5 : tie.Need-more-if-requires-5
-more-if-requires-5 c κs = search needs
-
-zero-if-requires : tie.Need-zero-if-requires
-zero-if-requires c κs = search needs
-
-more-if-requires-6 : tie.Need-more-if-requires-6
-more-if-requires-6 c κs = search needs
-
-zero-if-requires-2 : tie.Need-zero-if-requires-2
-zero-if-requires-2 c κs = search needs
-
-more-if-requires-7 : tie.Need-more-if-requires-7
-more-if-requires-7 c κs = search needs
-
-zero-if-requires-3 : tie.Need-zero-if-requires-3
-zero-if-requires-3 c κs = search needs
+counts-each-requires : tie.Need-counts-each-requires
+counts-each-requires c κs = search needs
 
 returns : tie.Need-returns
-returns c = simp (c .zero-if3 .ensures, c .before .more-if7 .ensures, c .before .before .zero-if2 .ensures, c .before .before .before .more-if6 .ensures, c .before .before .before .before .zero-if .ensures, c .before .before .before .before .before .more-if5 .ensures, c .before .before .before .before .before .before .more-if4 .ensures, c .before .before .before .before .before .before .before .more-if3 .ensures, c .before .before .before .before .before .before .before .before .more-if2 .ensures, c .before .before .before .before .before .before .before .before .before .more-if .ensures)
+returns c = c .counts-each .ensures
+
+returns-2 : tie.Need-returns-2
+returns-2 c =
+    let a = c .before .before .before .before .args in
+    counts-same (a .c) (a .value) (a .x) (rw (← (c .before .before .before .or-either .ensures), ← (c .before .before .or-either2 .ensures), ← (c .before .or-either3 .ensures)) (c .if1 .left))
 
 pub counts-after-spec : {M : Type 1} → statement M
 counts-after-spec =
     tie.close
     (tie.spec
-    more-if-requires
-    more-if-requires-2
-    more-if-requires-3
-    more-if-requires-4
-    more-if-requires-5
-    zero-if-requires
-    more-if-requires-6
-    zero-if-requires-2
-    more-if-requires-7
-    zero-if-requires-3
-    returns)
+    or-either-requires
+    or-either-requires-2
+    or-either-requires-3
+    counts-each-requires
+    returns
+    returns-2)

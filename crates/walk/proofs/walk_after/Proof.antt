@@ -7,8 +7,8 @@ use Rattle.walk.proofs.walk_after.Tie as tie
 number-requires : tie.Need-number-requires
 number-requires c κs = search needs
 
-capped-value-requires : tie.Need-capped-value-requires
-capped-value-requires c κs = search needs
+value-at-requires : tie.Need-value-at-requires
+value-at-requires c κs = search needs
 
 key-after-requires : tie.Need-key-after-requires
 key-after-requires c κs = search needs
@@ -37,14 +37,14 @@ mark-after-requires c κs = search needs
 returns : tie.Need-returns
 returns c =
     let a = c .before .before .before .before .before .before .before .before .before .before .before .before .before .before .before .args in
-    walk-is (a .t .now) (a .at) (a .keys .now) (a .w) (c .before .before .before .before .before .before .before .before .before .number .ensures) (c .before .before .before .before .before .before .before .before .capped-value .ensures) (c .before .before .before .before .before .before .before .key-after .ensures) (c .before .before .before .before .before .before .repeated .ensures) (c .before .before .before .before .before .row-at .ensures) (c .before .before .before .before .next-phase .ensures) (c .before .before .before .closed-by .ensures) (c .before .before .counts-after .ensures) (c .before .current-after .ensures) (c .mark-after .ensures)
+    walk-is (a .t .now) (a .at) (a .keys .now) (a .w) (c .before .before .before .before .before .before .before .before .before .number .ensures) (c .before .before .before .before .before .before .before .before .value-at .ensures) (c .before .before .before .before .before .before .before .key-after .ensures) (c .before .before .before .before .before .before .repeated .ensures) (c .before .before .before .before .before .row-at .ensures) (c .before .before .before .before .next-phase .ensures) (c .before .before .before .closed-by .ensures) (c .before .before .counts-after .ensures) (c .before .current-after .ensures) (c .mark-after .ensures)
 
 pub walk-after-spec : {M : Type 1} → statement M
 walk-after-spec =
     tie.close
     (tie.spec
     number-requires
-    capped-value-requires
+    value-at-requires
     key-after-requires
     repeated-requires
     row-at-requires
