@@ -4,6 +4,7 @@ use mathlib.Core.Path.{_≡_, refl}
 use mathlib.Core.List.{List, [], _∷_}
 use Prim.Native.Nat.{ℕ}
 use Rattle.rules.specs.Syntax.{Rule}
+use Rattle.symbols.specs.Kinds.{kindOf}
 use Rattle.grammar.specs.Reader.{readPack}
 use Rattle.grammar.specs.Reader.PackAnswer.{Rules}
 use Rattle.clash.specs.Check.{checkOf}
@@ -35,4 +36,5 @@ seven : checkPack sevenPack ≡ checkedBy (clash 1 2 0 0 1000007 0)
 seven = by-rules sevenPack packSeven (clash 1 2 0 0 1000007 0) seven-read row-seven
 
 pub card : All rows
-card = (refl, (refl, (refl, (refl, (tens, (trailing, (seven, tt)))))))
+unfolding kindOf
+card = (refl, (refl, (refl, (refl, (tens, (trailing, (seven, (refl, (refl, (refl, (refl, (refl, tt))))))))))))

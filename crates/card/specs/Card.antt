@@ -14,18 +14,22 @@ use Rattle.answer.specs.declared.Refusal.the-variants.{RulesClash}
 use Rattle.pack_check.specs.Check.{checkPack}
 use Rattle.pack_check.specs.declared.PackCheck.the-variants.{Refused}
 use Rattle.select.specs.Select.{selectOf}
+use Rattle.print.specs.Outcome.{outcome}
+use Rattle.print.specs.Outcome.Outcome.{text}
 
 -- A row of the card: what is asked, and the answer that the card gives.
 pub data Row : Type 0 where
-  operands : (text : List ℕ) → Reading → Row
+  operands : (number : List ℕ) → Reading → Row
   word : (pack number : List ℕ) → Selection → Row
   clash : (pack : List ℕ) (first second e v i f : ℕ) → Row
+  prints : (pattern number shown : List ℕ) → Row
 
 -- the row's answer is that of the definitions
 abbrev pub Right : Row → Type 0
-Right (operands text r) = readNumber text ≡ r
+Right (operands number r) = readNumber number ≡ r
 Right (word pack number s) = selectOf pack number ≡ s
 Right (clash pack first second e v i f) = checkPack pack ≡ Refused (RulesClash (record { first = first; second = second }) (record { e = e; v = record { 0 = v }; i = i; f = record { 0 = f } }))
+Right (prints pattern number shown) = outcome [] pattern number ≡ text shown
 
 abbrev pub All : List Row → Type 0
 All [] = Unit {0}
@@ -75,4 +79,12 @@ rows =
     ∷ clash trailingPack 1 2 0 2 0 50
     -- "`one: i != 0..999999; two: i % 10 = 7`: 0 0 1000007 0"
     ∷ clash sevenPack 1 2 0 0 1000007 0
+    -- "`0.0`: * 0.349 gives 0.3, * 0.35 gives 0.4, * 0.25 gives 0.2"
+    ∷ prints (48 ∷ 46 ∷ 48 ∷ []) (48 ∷ 46 ∷ 51 ∷ 52 ∷ 57 ∷ []) (48 ∷ 46 ∷ 51 ∷ [])
+    ∷ prints (48 ∷ 46 ∷ 48 ∷ []) (48 ∷ 46 ∷ 51 ∷ 53 ∷ []) (48 ∷ 46 ∷ 52 ∷ [])
+    ∷ prints (48 ∷ 46 ∷ 48 ∷ []) (48 ∷ 46 ∷ 50 ∷ 53 ∷ []) (48 ∷ 46 ∷ 50 ∷ [])
+    -- "`0.65`: * 1.234 [..] 1.30"
+    ∷ prints (48 ∷ 46 ∷ 54 ∷ 53 ∷ []) (49 ∷ 46 ∷ 50 ∷ 51 ∷ 52 ∷ []) (49 ∷ 46 ∷ 51 ∷ 48 ∷ [])
+    -- "* `#,##,##0`: 1234567 gives 12,34,567"
+    ∷ prints (35 ∷ 44 ∷ 35 ∷ 35 ∷ 44 ∷ 35 ∷ 35 ∷ 48 ∷ []) (49 ∷ 50 ∷ 51 ∷ 52 ∷ 53 ∷ 54 ∷ 55 ∷ []) (49 ∷ 50 ∷ 44 ∷ 51 ∷ 52 ∷ 44 ∷ 53 ∷ 54 ∷ 55 ∷ [])
     ∷ []
