@@ -18,8 +18,8 @@ loop-holds c = search needs
 after-requires : tie.Need-after-requires Inv-loop μ-loop
 after-requires c κs = search needs
 
-line-length-requires : tie.Need-line-length-requires Inv-loop μ-loop
-line-length-requires c κs = search needs
+run-until-requires : tie.Need-run-until-requires Inv-loop μ-loop
+run-until-requires c κs = search needs
 
 upto-requires : tie.Need-upto-requires Inv-loop μ-loop
 upto-requires c κs = search needs
@@ -56,7 +56,7 @@ append-all-spec =
     μ-loop
     loop-holds
     after-requires
-    line-length-requires
+    run-until-requires
     upto-requires
     read-number-requires
     append-reading-requires
