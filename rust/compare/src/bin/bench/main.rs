@@ -124,14 +124,16 @@ fn select_prepared(table: &mut Table) {
     }
 }
 
-/// Packs whose rules first meet at a number of seven digits, or nowhere though they look alike.
-const SEVEN_DIGITS: [&str; 6] = [
+/// Packs whose rules first meet at a number of seven digits, or nowhere, which takes a search to find.
+const SEARCHED: [&str; 8] = [
     "one: i != 0..999999; two: i % 10 = 7",
     "one: i % 1000000 = 999999 and i != 0..999999; few: i % 10 = 9",
     "one: n != 0..999999 and n % 1000000 != 0..499999; many: n % 1000 = 7",
     "one: i != 0..999999 and i % 1000 = 123; two: i % 100000 = 45123; few: i % 1000000 = 645123",
     "one: f % 1000000 = 123456 and i != 0..999999; two: t % 1000 = 456 and i % 1000000 = 7",
     "one: i % 1000000 = 1..499999 and i % 10 = 3; two: i % 1000000 != 0 and i % 10 = 4",
+    "one: f % 1000000 = 1..3,5..7,9; two: t % 100 != 1..19 and t != 0",
+    "one: t % 10 = 0 and t % 1000000 != 1; two: t != 0",
 ];
 
 fn check(table: &mut Table) {
@@ -154,7 +156,7 @@ fn check(table: &mut Table) {
             check_times(&[slowest.1]),
         );
     }
-    for pack in ["other:"].into_iter().chain(SEVEN_DIGITS) {
+    for pack in ["other:"].into_iter().chain(SEARCHED) {
         let answer = plain::check(pack.as_bytes());
         let answer = named(answer, |()| "passed".to_string());
         table.row(
