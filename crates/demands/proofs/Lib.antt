@@ -1,2 +1,5 @@
 pub mod Counts
+pub mod Given
+pub mod Demand1
+pub mod Demand2
 pub mod Demand3

@@ -1,1 +1,3 @@
+pub mod Verdicts
+pub mod Comes
 pub mod Packs

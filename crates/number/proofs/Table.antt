@@ -82,7 +82,7 @@ read-if s p h =
 
 -- ---- one of them always holds
 
-data Told (s : List ℕ) : Type 0 where
+pub data Told (s : List ℕ) : Type 0 where
   row : (r : NumberRow) → Row r s → Told s
   number : (p : Parts) → Past15 s p → Told s
 
@@ -110,7 +110,7 @@ told-parts s p h = tested (ltb maxExponent (shiftOf p)) (λ e. row ExponentTooLa
                 fifteen : ltb maxPlaces (length (fractionDigits p)) ≡ false → Told s
                 fifteen v = number p (record { past = past4; places = ltb-false maxPlaces (length (fractionDigits p)) v })
 
-told : (s : List ℕ) → Told s
+pub told : (s : List ℕ) → Told s
 told s = tested (ltb maxBytes (length s)) (λ e. row NumberTooLong (ltb-true maxBytes (length s) e)) short
   where
     short : ltb maxBytes (length s) ≡ false → Told s

@@ -1,0 +1,45 @@
+-- `screen::okw_check` answers by the case of the check.
+use mathlib.Core.Path.{sym, ap, _∙_}
+use Rattle.screen.specs.Entries.{noted, checkCode, checkFigures}
+use borrow.Author.Needs.{needs}
+use Rattle.screen.proofs.okw_check.Statement.{statement}
+use Rattle.screen.proofs.okw_check.Tie as tie
+
+check-requires : tie.Need-check-requires
+check-requires c κs = search needs
+
+enum-told : tie.Need-enum-told
+enum-told c = search needs
+
+note-none-requires : tie.Need-note-none-requires
+note-none-requires c κs = search needs
+
+enum-known-checked : tie.Need-enum-known-checked
+enum-known-checked c = search needs
+
+note-refusal-requires : tie.Need-note-refusal-requires
+note-refusal-requires c κs = search needs
+
+returns : tie.Need-returns
+returns c =
+    let a = c .before .before .before .before .before .before .args in
+    let e = sym (c .before .before .before .before .check .ensures) ∙ c .before .before .enum-told .given .1 in
+    (c .note-none .ensures .0 ∙ ap checkCode (sym e), c .note-none .ensures .1 ∙ ap (λ x. noted (checkFigures x) (a .figures .now)) (sym e))
+
+returns-2 : tie.Need-returns-2
+returns-2 c =
+    let a = c .before .before .before .before .before .before .before .args in
+    let e = sym (c .before .before .before .before .before .check .ensures) ∙ c .before .before .before .checked .given .1 in
+    (c .note-refusal .ensures .0 ∙ ap checkCode (sym e), c .note-refusal .ensures .1 ∙ ap (λ x. noted (checkFigures x) (a .figures .now)) (sym e))
+
+pub okw-check-spec : {M : Type 1} → statement M
+okw-check-spec =
+    tie.close
+    (tie.spec
+    check-requires
+    enum-told
+    note-none-requires
+    enum-known-checked
+    note-refusal-requires
+    returns
+    returns-2)

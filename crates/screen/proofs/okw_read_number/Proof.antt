@@ -1,0 +1,45 @@
+-- `screen::okw_read_number` answers by the case of the reading.
+use mathlib.Core.Path.{sym, ap, _∙_}
+use Rattle.screen.specs.Entries.{noted, readCode, readFigures}
+use borrow.Author.Needs.{needs}
+use Rattle.screen.proofs.okw_read_number.Statement.{statement}
+use Rattle.screen.proofs.okw_read_number.Tie as tie
+
+read-number-requires : tie.Need-read-number-requires
+read-number-requires c κs = search needs
+
+enum-known-reading : tie.Need-enum-known-reading
+enum-known-reading c = search needs
+
+note-number-requires : tie.Need-note-number-requires
+note-number-requires c κs = search needs
+
+enum-known-reading-2 : tie.Need-enum-known-reading-2
+enum-known-reading-2 c = search needs
+
+note-refusal-requires : tie.Need-note-refusal-requires
+note-refusal-requires c κs = search needs
+
+returns : tie.Need-returns
+returns c =
+    let a = c .before .before .before .before .before .before .before .args in
+    let e = sym (c .before .before .before .before .before .read-number .ensures) ∙ c .before .before .before .reading .given .1 in
+    (c .note-number .ensures .0 ∙ ap readCode (sym e), c .note-number .ensures .1 ∙ ap (λ x. noted (readFigures x) (a .figures .now)) (sym e))
+
+returns-2 : tie.Need-returns-2
+returns-2 c =
+    let a = c .before .before .before .before .before .before .before .args in
+    let e = sym (c .before .before .before .before .before .read-number .ensures) ∙ c .before .before .before .reading2 .given .1 in
+    (c .note-refusal .ensures .0 ∙ ap readCode (sym e), c .note-refusal .ensures .1 ∙ ap (λ x. noted (readFigures x) (a .figures .now)) (sym e))
+
+pub okw-read-number-spec : {M : Type 1} → statement M
+okw-read-number-spec =
+    tie.close
+    (tie.spec
+    read-number-requires
+    enum-known-reading
+    note-number-requires
+    enum-known-reading-2
+    note-refusal-requires
+    returns
+    returns-2)
