@@ -1,7 +1,8 @@
-//! Inputs for the comparison of the proved library with the ordinary Rust, and the published packs.
+//! The proved library and the ordinary Rust side by side: jobs done by both, inputs for them, and the published packs.
 
 pub mod generate;
 mod random;
+pub mod sides;
 
 pub use random::Random;
 
