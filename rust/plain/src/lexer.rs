@@ -33,7 +33,7 @@ impl<'a> Lexer<'a> {
         Lexer { text, at: 0 }
     }
 
-    /// Length of the run of bytes at the current place for which `belongs` holds.
+    /// The run of bytes from the current place on for which `belongs` holds.
     fn run(&self, belongs: impl Fn(&u8) -> bool) -> &'a [u8] {
         let rest = &self.text[self.at..];
         &rest[..rest.iter().take_while(|&b| belongs(b)).count()]

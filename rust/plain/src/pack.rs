@@ -307,7 +307,7 @@ impl<'a> Parser<'a> {
         Refusal::PackGrammar(self.place())
     }
 
-    /// Notes a refusal at the token ahead if the condition holds and there is one.
+    /// Notes a refusal at the token ahead if the condition holds.
     fn note_if(&mut self, condition: bool, refusal: fn(usize) -> Refusal) {
         if condition {
             self.note(self.place(), refusal(self.place()));

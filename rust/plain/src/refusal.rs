@@ -4,25 +4,35 @@
 #[derive(Clone, Copy, Debug, PartialEq, Eq)]
 #[allow(missing_docs)]
 pub enum Refusal {
+    /// 10: number over 64 bytes.
     NumberTooLong,
+    /// 11: not the number grammar.
     NumberGrammar,
+    /// 12: exponent above 14.
     ExponentTooLarge,
+    /// 13: exponent after a zero integer part.
     ExponentAfterZero,
+    /// 14: i, leading zeros dropped, has over 15 digits.
     TooManyIntegerDigits,
+    /// 15: v above 9.
     TooManyFractionDigits,
+    /// 20: pack over 4,096 bytes.
     PackTooLong,
+    /// 21: not the pack grammar; the first place no well-formed pack could go on from.
     PackGrammar(usize),
+    /// 22: relation value above 999,999; its start.
     ValueTooLarge(usize),
+    /// 23: modulus not listed; its start.
     ModulusNotListed(usize),
+    /// 24: a range `a..b` with a above b; start of b.
     RangeReversed(usize),
+    /// 25: keyword unknown or repeated; its start.
     Keyword(usize),
+    /// 26: clause, relation or range too many; its start.
     TooMany(usize),
-    /// A number meets two rules; places counted from 1.
-    TwoRulesMet {
-        first: usize,
-        second: usize,
-    },
-    /// Two rules share an admitted number, of which this is the least.
+    /// 27 from a selection: the number meets two rules, these first; rules are counted from 1.
+    TwoRulesMet { first: usize, second: usize },
+    /// 27 from the check: two rules share an admitted number, of which this is the least.
     Clash {
         first: usize,
         second: usize,
@@ -31,17 +41,27 @@ pub enum Refusal {
         i: u64,
         f: u64,
     },
+    /// 30: pattern over 256 bytes.
     PatternTooLong,
+    /// 31: pattern not UTF-8.
     PatternNotUtf8,
+    /// 32: bare `¤`, `*`, `@`, or `E` after a number-part byte.
     PatternReserved,
+    /// 33: not the pattern grammar, quote left open.
     PatternGrammar,
+    /// 34: over 15 integer or 9 fraction places.
     TooManyPlaces,
+    /// 35: step above 999,999 units of the last place.
     StepTooLarge,
+    /// 36: over one percent or permille mark in a subpattern, or the two subpatterns differ in it.
     Marks,
+    /// 40: unknown kind, body cut short, symbol twice.
     SymbolRecord,
+    /// 41: body not one UTF-8 code point, or an ASCII digit.
     SymbolBody,
+    /// 50: printing a number with an exponent.
     PrintExponent,
-    /// The output area is too small; the bytes needed.
+    /// 51: text longer than the output area; the bytes needed.
     AreaTooSmall(usize),
 }
 
