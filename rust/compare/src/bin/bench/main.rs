@@ -112,15 +112,14 @@ fn select_prepared(table: &mut Table) {
     for (language, pack) in languages() {
         let pack = pack.as_bytes();
         let plain = || prepared::plain_words(black_box(pack), black_box(0), black_box(COUNT));
-        #[cfg(feature = "prepared")]
-        {
-            let proved = || prepared::proved_words(black_box(pack), black_box(0), black_box(COUNT));
-            assert_eq!(plain(), proved(), "the two sides give the same sum");
-            let (plain, proved) = times(plain, proved);
-            table.row(language, (plain / COUNT as f64, proved / COUNT as f64));
-        }
-        #[cfg(not(feature = "prepared"))]
-        table.plain_row(language, time(plain) / COUNT as f64);
+        let Some(words) = prepared::proved_words() else {
+            table.plain_row(language, time(plain) / COUNT as f64);
+            continue;
+        };
+        let proved = || words(black_box(pack), black_box(0), black_box(COUNT));
+        assert_eq!(plain(), proved(), "the two sides give the same sum");
+        let (plain, proved) = times(plain, proved);
+        table.row(language, (plain / COUNT as f64, proved / COUNT as f64));
     }
 }
 

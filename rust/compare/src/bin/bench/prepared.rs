@@ -22,12 +22,23 @@ pub fn plain_words(pack: &[u8], from: u64, count: u64) -> u64 {
     words.sum()
 }
 
-/// The same by the proved library.
+/// A function such as `plain_words`.
+pub type Words = fn(pack: &[u8], from: u64, count: u64) -> u64;
+
+/// The same by the proved library, where its entry is linked.
 #[cfg(feature = "prepared")]
-pub fn proved_words(pack: &[u8], from: u64, count: u64) -> u64 {
+pub fn proved_words() -> Option<Words> {
     unsafe extern "C" {
         fn okw_words(pack: *const u8, pack_len: usize, from: u64, count: u64) -> u64;
     }
-    // SAFETY: `pack` may be read for its length during the call, after which the library does not keep it.
-    unsafe { okw_words(pack.as_ptr(), pack.len(), from, count) }
+    Some(|pack, from, count| {
+        // SAFETY: `pack` may be read for its length during the call, after which the library does not keep it.
+        unsafe { okw_words(pack.as_ptr(), pack.len(), from, count) }
+    })
+}
+
+/// The same by the proved library, whose entry is not linked.
+#[cfg(not(feature = "prepared"))]
+pub fn proved_words() -> Option<Words> {
+    None
 }
