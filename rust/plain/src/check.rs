@@ -6,6 +6,7 @@
 
 use crate::number::{MAX_E, MAX_V};
 use crate::{Clause, Operand, Pack, Refusal, Relation, Rule, read_pack};
+use std::cell::OnceCell;
 
 /// Largest integer part of an admitted number.
 const MAX_I: u64 = 999_999_999_999_999;
@@ -134,8 +135,9 @@ impl<'a> Joined<'a> {
 
     fn least(&self) -> Option<Least> {
         let integral = self.admits_no_fraction() && agree(&self.i_and_n);
-        let fractions = self.least_fractions();
-        if !integral && fractions.iter().all(Option::is_none) {
+        let fractions: [OnceCell<Option<u64>>; MAX_V as usize + 1] = Default::default();
+        let fraction = |v: u32| *fractions[v as usize].get_or_init(|| self.least_fraction(v));
+        if !integral && bits(self.v).all(|v| fraction(v).is_none()) {
             return None;
         }
         bits(self.e).find_map(|e| {
@@ -145,7 +147,7 @@ impl<'a> Joined<'a> {
                 .flatten();
             let with = least_common(&self.i, low, MAX_I);
             bits(self.v).find_map(|v| {
-                let (i, f) = [without.map(|i| (i, 0)), with.zip(fractions[v as usize])]
+                let (i, f) = [without.map(|i| (i, 0)), with.zip(fraction(v))]
                     .into_iter()
                     .flatten()
                     .min()?;
@@ -159,23 +161,19 @@ impl<'a> Joined<'a> {
         self.w & 1 != 0 && self.f.iter().chain(&self.t).all(|set| set.has(0))
     }
 
-    /// For each v the least f above 0, if there is one.
-    fn least_fractions(&self) -> [Option<u64>; MAX_V as usize + 1] {
-        let mut least = [None; MAX_V as usize + 1];
+    /// The least f above 0 with v digits, if there is one.
+    fn least_fraction(&self, v: u32) -> Option<u64> {
         if self.whole {
-            return least;
+            return None;
         }
-        for v in bits(self.v) {
-            least[v as usize] = bits(self.w)
-                .filter(|w| (1..=v).contains(w))
-                .filter_map(|w| self.least_fraction(v, w))
-                .min();
-        }
-        least
+        bits(self.w)
+            .filter(|w| (1..=v).contains(w))
+            .filter_map(|w| self.least_fraction_of_width(v, w))
+            .min()
     }
 
     /// The least f above 0 with v digits of which the last v - w are zeros and the one before is not.
-    fn least_fraction(&self, v: u32, w: u32) -> Option<u64> {
+    fn least_fraction_of_width(&self, v: u32, w: u32) -> Option<u64> {
         let unit = 10u64.pow(v - w);
         let last_digit = Set {
             modulus: Some(10),

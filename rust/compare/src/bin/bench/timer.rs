@@ -3,10 +3,10 @@
 use std::hint::black_box;
 use std::time::{Duration, Instant};
 
-/// How long one run should take.
-const RUN: Duration = Duration::from_millis(2);
+/// How long one run should take: well below a time slice, so that on a busy machine most runs are not interrupted.
+const RUN: Duration = Duration::from_micros(500);
 /// Runs of which the median is taken.
-const RUNS: usize = 9;
+const RUNS: usize = 31;
 
 /// Nanoseconds a call of each, the median of several runs; the sides take turns, so that a busy machine slows both.
 pub fn times<A, B>(mut plain: impl FnMut() -> A, mut proved: impl FnMut() -> B) -> (f64, f64) {
