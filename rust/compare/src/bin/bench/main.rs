@@ -124,7 +124,7 @@ fn select_prepared(table: &mut Table) {
 }
 
 /// Packs whose rules first meet at a number of seven digits, or nowhere, which takes a search to find.
-const SEARCHED: [&str; 8] = [
+const SEARCHED: [&str; 9] = [
     "one: i != 0..999999; two: i % 10 = 7",
     "one: i % 1000000 = 999999 and i != 0..999999; few: i % 10 = 9",
     "one: n != 0..999999 and n % 1000000 != 0..499999; many: n % 1000 = 7",
@@ -132,6 +132,7 @@ const SEARCHED: [&str; 8] = [
     "one: f % 1000000 = 123456 and i != 0..999999; two: t % 1000 = 456 and i % 1000000 = 7",
     "one: i % 1000000 = 1..499999 and i % 10 = 3; two: i % 1000000 != 0 and i % 10 = 4",
     "one: f % 1000000 = 1..3,5..7,9; two: t % 100 != 1..19 and t != 0",
+    "one: f % 10000 = 1; two: f != 0..999999",
     "one: t % 10 = 0 and t % 1000000 != 1; two: t != 0",
 ];
 
