@@ -11,7 +11,7 @@ use std::env;
 use std::io::Write;
 use std::thread;
 
-const DEFAULT_ROUNDS: u64 = 100_000;
+const DEFAULT_ROUNDS: u64 = 80_000;
 /// From so many rounds on every row of the table must have been met.
 const ROUNDS_FOR_ALL_ROWS: u64 = 20_000;
 

@@ -63,37 +63,18 @@ fn published(random: &mut Random) -> Vec<u8> {
 
 fn shape(random: &mut Random) -> Shape {
     let fault = random.one_of(&[usize::MAX, usize::MAX, 60, 12]);
-    match random.below(12) {
-        0 => Shape {
-            clauses: 10,
-            relations: 2,
-            ranges: 2,
-            fault,
-        },
-        1 => Shape {
-            clauses: 2,
-            relations: 10,
-            ranges: 2,
-            fault,
-        },
-        2 => Shape {
-            clauses: 2,
-            relations: 2,
-            ranges: 18,
-            fault,
-        },
-        3 => Shape {
-            clauses: 10,
-            relations: 10,
-            ranges: 18,
-            fault,
-        },
-        _ => Shape {
-            clauses: 3,
-            relations: 4,
-            ranges: 4,
-            fault,
-        },
+    let (clauses, relations, ranges) = match random.below(12) {
+        0 => (10, 2, 2),
+        1 => (2, 10, 2),
+        2 => (2, 2, 18),
+        3 => (10, 10, 18),
+        _ => (3, 4, 4),
+    };
+    Shape {
+        clauses,
+        relations,
+        ranges,
+        fault,
     }
 }
 
