@@ -1,12 +1,53 @@
 # demo: builds the bench program and runs it on document 01's whole case.
-# test: checks the layout of every file, then runs the gate, whose last line is 'N passed, 0 failed'.
-.PHONY: demo test
+# example: builds the library and runs the C program of c/example.c.
+# pack FILE=..: checks a language pack from a file, and shows what is wrong with it and where.
+# bench: times of the library and of ordinary Rust, side by side.
+# test: the layout of every file; then the gate, which proves every crate from nothing, tries the edits that must fail and runs the programs;
+#   then what links the library: the tries from C and the comparison with ordinary Rust. OKW_ROUNDS sets how long the comparison is.
+SHELL := /bin/bash
+.SHELLFLAGS := -eu -o pipefail -c
+.PHONY: demo example pack bench test linked
+
+SCREEN := target/staticlib/libscreen.a
+PREPARED := target/staticlib/libprepared.a
+SOURCES := crates.txt $(shell find crates -name '*.rt' -o -name '*.antt')
+CARGO := cargo --offline --quiet
+RUST := --release --manifest-path rust/Cargo.toml
+CC_FLAGS := -std=c11 -O2 -Wall -Wextra -Werror -Iinclude
 
 demo:
 	@mkdir -p target
 	@rt check bench > target/demo.log 2>&1 || { cat target/demo.log; exit 1; }
 	@target/bin/bench < demo/whole-case.jobs
 
+# A static library: proved, then compiled.
+target/staticlib/lib%.a: $(SOURCES)
+	@mkdir -p target/c
+	@rt staticlib $* > target/$*.log 2>&1 || { cat target/$*.log; exit 1; }
+
+example: $(SCREEN)
+	@cc $(CC_FLAGS) c/example.c $(SCREEN) -o target/c/example
+	@target/c/example
+
+pack: $(SCREEN)
+	@test -n "$(FILE)" || { echo "make pack FILE=.. wants a file"; exit 2; }
+	@$(CARGO) run $(RUST) -p packreport -- "$(FILE)"
+
+bench: $(SCREEN) $(PREPARED)
+	@$(CARGO) run $(RUST) -p compare --features prepared --bin bench
+
+# What links the library: every entry from C with areas of every size, the C example, and the Rust side.
+linked: $(SCREEN) $(PREPARED)
+	@cc $(CC_FLAGS) c/areas.c $(SCREEN) -o target/c/areas
+	@target/c/areas
+	@cc $(CC_FLAGS) c/example.c $(SCREEN) -o target/c/example
+	@target/c/example | diff - c/example.out
+	@$(CARGO) test $(RUST)
+
+# The gate's own last line is said again at the end.
 test:
 	@rt fmt --check
-	@rt ci
+	@log=$$(mktemp); trap 'rm -f "$$log"' EXIT; \
+	rt ci | tee "$$log"; \
+	$(MAKE) --no-print-directory linked; \
+	tail -n 1 "$$log"
