@@ -1,10 +1,10 @@
 // The bench program: a job a line on standard input, an answer a line on standard output.
 //
-// It only reads and writes; the library bench_line cuts the lines and answers them. Where a read or
+// It only reads and writes; the libraries line and bench_line cut the lines and answer them. Where a read or
 // a write fails it stops, and writes nothing more.
-use bench_line::Cut;
 use libc::STDIN_FILENO;
 use libc::STDOUT_FILENO;
+use line::Cut;
 
 // Answers are written out once so many bytes of them are there: the longest answer fits behind.
 const ENOUGH: usize = 61_440;
@@ -44,7 +44,7 @@ fn answered(buffer: &[u8], out: &mut [u8], s: State, n: usize) -> State {
     let mut next = s;
     next.used = bench_line::append_answer(out, s.used, decimal::cut::upto(rest, n), s.long);
     next.long = false;
-    next.from = bench_line::next_line(s.from, n, s.held);
+    next.from = line::next_line(s.from, n, s.held);
     if ENOUGH < next.used {
         return flushed(out, next);
     }
@@ -57,7 +57,7 @@ fn refilled(buffer: &mut [u8], out: &[u8], s: State) -> State {
     if !next.on {
         return next;
     }
-    let kept = bench_line::keep_rest(buffer, s.from, s.held);
+    let kept = line::keep_rest(buffer, s.from, s.held);
     next.from = 0;
     next.held = kept;
     if buffer.len() <= kept {
@@ -69,14 +69,14 @@ fn refilled(buffer: &mut [u8], out: &[u8], s: State) -> State {
     }
     next.last = got == 0;
     let more = io::count(got, decimal::cut::after(buffer, kept));
-    next.held = bench_line::held_after(kept, more, buffer.len());
+    next.held = line::held_after(kept, more, buffer.len());
     next
 }
 
 // One turn: a line is answered, or more is read, or all is done.
 fn turn(buffer: &mut [u8], out: &mut [u8], s: State) -> State {
     let rest = decimal::cut::after(decimal::cut::upto(buffer, s.held), s.from);
-    let cut = bench_line::cut_line(rest, s.long, s.last);
+    let cut = line::cut_line(rest, s.long, s.last);
     match cut {
         Cut::Line(n) => answered(buffer, out, s, n),
         Cut::Over => {

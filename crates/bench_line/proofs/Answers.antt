@@ -9,10 +9,10 @@ use lib.ListN.{length, getD, take, drop, drop-of-length-le, length-take}
 use lib.Dec.{ltb}
 use lib.Seq.{drop-cons, drop-drop, getD-take, take-at}
 use Rattle.decimal.specs.Digits.{numeral}
-use Rattle.bench_line.specs.Jobs.{jobAt, jobOf}
+use Rattle.line.specs.Jobs.{jobAt, jobOf}
 use Rattle.bench_line.specs.Lines.{spaced, refusalText, selectionText, checkText, maxOutput, printedText, formatText, jobText, jobAnswer}
-use Rattle.bench_line.specs.declared.JobCut.{JobCut}
-use Rattle.bench_line.specs.declared.JobCut.the-variants.{SelectAt, CheckAt, FormatAt}
+use Rattle.line.specs.declared.JobCut.{JobCut}
+use Rattle.line.specs.declared.JobCut.the-variants.{SelectAt, CheckAt, FormatAt}
 use Rattle.plural.specs.declared.Selection.{Selection}
 use Rattle.answer.specs.declared.Refusal.{Refusal}
 use Rattle.answer.specs.declared.Refusal.the-variants.{AreaTooShort}

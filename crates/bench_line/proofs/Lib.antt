@@ -1,4 +1,2 @@
-pub mod Moves
 pub mod Streams
-pub mod Fields
 pub mod Answers

@@ -15,10 +15,11 @@ use Rattle.decimal.proofs.Choices.{tested, choice, not-both, never}
 use Rattle.decimal.specs.Split.{onFirst}
 use Rattle.decimal.proofs.Runs.{nil-of-length}
 use Rattle.decimal.proofs.Splits.{until-le, until-within, until-beyond}
-use Rattle.bench_line.specs.Lines.{lines, maxLine, unread, answerTo, answersTo, output}
-use Rattle.bench_line.specs.Stream.{lineLength, lastCut, cutOf, cutAnswer, pending}
-use Rattle.bench_line.specs.declared.Cut.{Cut}
-use Rattle.bench_line.specs.declared.Cut.the-variants.{Line, Over, More, Done}
+use Rattle.line.specs.Cuts.{lineLength, lastCut, cutOf, maxLine}
+use Rattle.bench_line.specs.Lines.{lines, unread, answerTo, answersTo, output}
+use Rattle.bench_line.specs.Stream.{cutAnswer, pending}
+use Rattle.line.specs.declared.Cut.{Cut}
+use Rattle.line.specs.declared.Cut.the-variants.{Line, Over, More, Done}
 
 -- ---- the first line of an input, and the others
 

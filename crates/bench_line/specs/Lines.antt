@@ -20,17 +20,14 @@ use Rattle.select.specs.Select.{selectOf}
 use Rattle.pack_check.specs.Check.{checkPack}
 use Rattle.pack_check.specs.declared.PackCheck.{PackCheck}
 use Rattle.pack_check.specs.declared.PackCheck.the-variants.{Passes, Refused as PackRefused}
-use Rattle.bench_line.specs.Jobs.{Job, jobOf}
-use Rattle.bench_line.specs.Jobs.Job.{select, check, format, none}
+use Rattle.line.specs.Cuts.{maxLine}
+use Rattle.line.specs.Jobs.{Job, jobOf}
+use Rattle.line.specs.Jobs.Job.{select, check, format, none}
 
 -- the lines of an input, without their LF: none is left behind a last LF
 abbrev pub lines : List ℕ → List (List ℕ)
 lines [] = []
 lines (b ∷ s) = if eqb b 10 then [] ∷ lines s else onFirst b (lines s)
-
--- "A line over 8,192 bytes, its LF not counted"
-abbrev pub maxLine : ℕ
-maxLine = 8192
 
 -- `? ` and a number
 abbrev pub unread : ℕ → List ℕ

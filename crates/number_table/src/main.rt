@@ -47,7 +47,7 @@ fn append_all(out: &mut [u8], input: &[u8]) -> usize {
         let n = decimal::scan::run_until(rest, 10);
         let end = append_reading(out, used, number::read_number(decimal::cut::upto(rest, n)));
         used = area::put(out, end, 10);
-        from = bench_line::next_line(from, n, input.len());
+        from = line::next_line(from, n, input.len());
     }
     used
 }

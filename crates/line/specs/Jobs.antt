@@ -6,8 +6,8 @@ use lib.Dec.{ltb, eqb}
 use lib.ListN.{length, getD, take, drop}
 use Rattle.decimal.specs.Choice.{if_then_else_, both}
 use Rattle.decimal.specs.Split.{split, until}
-use Rattle.bench_line.specs.declared.JobCut.{JobCut}
-use Rattle.bench_line.specs.declared.JobCut.the-variants.{SelectAt, CheckAt, FormatAt, Unknown}
+use Rattle.line.specs.declared.JobCut.{JobCut}
+use Rattle.line.specs.declared.JobCut.the-variants.{SelectAt, CheckAt, FormatAt, Unknown}
 
 pub data Job : Type 0 where
   select : (pack number : List ℕ) → Job

@@ -1,7 +1,7 @@
--- `bench_line::job_with` answers its definition, test by test.
+-- `line::job_with` answers its definition, test by test.
 use borrow.Author.Tests.{eq-eqb, ne-eqb, not-true, not-false}
-use Rattle.bench_line.proofs.job_with.Statement.{statement}
-use Rattle.bench_line.proofs.job_with.Tie as tie
+use Rattle.line.proofs.job_with.Statement.{statement}
+use Rattle.line.proofs.job_with.Tie as tie
 
 returns : tie.Need-returns
 returns c = simp (eq-eqb _ _ (c .before .if1 .taken), c .if2 .taken)

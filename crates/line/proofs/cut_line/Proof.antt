@@ -1,8 +1,8 @@
--- `bench_line::cut_line` answers `cutOf`, test by test.
+-- `line::cut_line` answers `cutOf`, test by test.
 use borrow.Author.Tests.{lt-ltb, le-ltb}
 use borrow.Author.Needs.{needs}
-use Rattle.bench_line.proofs.cut_line.Statement.{statement}
-use Rattle.bench_line.proofs.cut_line.Tie as tie
+use Rattle.line.proofs.cut_line.Statement.{statement}
+use Rattle.line.proofs.cut_line.Tie as tie
 
 run-until-requires : tie.Need-run-until-requires
 run-until-requires c κs = search needs

@@ -1,9 +1,9 @@
--- `bench_line::read_job` tells the job of a line from its letter and the lengths of its fields (Fields.antt).
+-- `line::read_job` tells the job of a line from its letter and the lengths of its fields (Fields.antt).
 use mathlib.Core.Path.{sym, _∙_}
-use Rattle.bench_line.proofs.Fields.{short-line, no-tab, job-told}
+use Rattle.line.proofs.Fields.{short-line, no-tab, job-told}
 use borrow.Author.Needs.{needs}
-use Rattle.bench_line.proofs.read_job.Statement.{statement}
-use Rattle.bench_line.proofs.read_job.Tie as tie
+use Rattle.line.proofs.read_job.Statement.{statement}
+use Rattle.line.proofs.read_job.Tie as tie
 
 returns : tie.Need-returns
 returns c = sym (short-line (c .before .before .args .line .now) (c .if1 .taken))

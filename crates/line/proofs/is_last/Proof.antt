@@ -1,8 +1,8 @@
--- `bench_line::is_last` answers its definition, test by test.
+-- `line::is_last` answers its definition, test by test.
 use borrow.Author.Tests.{lt-ltb, le-ltb}
 use borrow.Author.Needs.{needs}
-use Rattle.bench_line.proofs.is_last.Statement.{statement}
-use Rattle.bench_line.proofs.is_last.Tie as tie
+use Rattle.line.proofs.is_last.Statement.{statement}
+use Rattle.line.proofs.is_last.Tie as tie
 
 returns : tie.Need-returns
 returns c = simp (le-ltb _ _ (c .if1 .taken))

@@ -8,7 +8,7 @@ use native.Mathlib.Numerals.{add-one}
 use lib.ListN.{length, getD, take, drop, set, length-take, length-drop}
 use lib.Seq.{sets, length-sets, getD-set-other, getD-take, getD-drop, take-suc, take-all, length-take-le}
 use Rattle.area.proofs.Pieces.{sets-append}
-use Rattle.bench_line.specs.Stream.{Kept}
+use Rattle.line.specs.Cuts.{Kept}
 
 -- what is written before a place leaves it as it was
 getD-sets-past : (p o : List ℕ) (a j d : ℕ) → a + length p ≤ j → getD (sets o a p) j d ≡ getD o j d

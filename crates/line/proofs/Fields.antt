@@ -11,10 +11,10 @@ use Rattle.decimal.specs.Choice.{if_then_else_, both}
 use Rattle.decimal.specs.Split.{until, onFirst, split}
 use Rattle.decimal.proofs.Choices.{tested, choices, not-both}
 use Rattle.decimal.proofs.Splits.{until-le, split-one, split-first}
-use Rattle.bench_line.specs.Jobs.{Job, isJob, jobIn, jobOf, jobAt, jobWith, lastField}
-use Rattle.bench_line.specs.Jobs.Job.{select, check, format, none}
-use Rattle.bench_line.specs.declared.JobCut.{JobCut}
-use Rattle.bench_line.specs.declared.JobCut.the-variants.{SelectAt, CheckAt, FormatAt, Unknown}
+use Rattle.line.specs.Jobs.{Job, isJob, jobIn, jobOf, jobAt, jobWith, lastField}
+use Rattle.line.specs.Jobs.Job.{select, check, format, none}
+use Rattle.line.specs.declared.JobCut.{JobCut}
+use Rattle.line.specs.declared.JobCut.the-variants.{SelectAt, CheckAt, FormatAt, Unknown}
 
 both-false : (x : Bool) → both x false ≡ false
 both-false true = refl

@@ -1,12 +1,12 @@
--- `bench_line::keep_rest` moves the bytes held to the front. The invariant: those moved stand at the front, and the rest of the buffer is as it was.
+-- `line::keep_rest` moves the bytes held to the front. The invariant: those moved stand at the front, and the rest of the buffer is as it was.
 use native.Mathlib.Omega.{arith}
 use mathlib.Core.Path.{_≡_}
 use Prim.Native.Nat.{_≤_, _<_, _-_, min}
 use lib.ListN.{length, take, drop}
-use Rattle.bench_line.proofs.Moves.{Moving, start, again, done, bound}
+use Rattle.line.proofs.Moves.{Moving, start, again, done, bound}
 use borrow.Author.Needs.{needs}
-use Rattle.bench_line.proofs.keep_rest.Statement.{statement}
-use Rattle.bench_line.proofs.keep_rest.Tie as tie
+use Rattle.line.proofs.keep_rest.Statement.{statement}
+use Rattle.line.proofs.keep_rest.Tie as tie
 
 abbrev Inv-loop : tie.InvT-loop
 Inv-loop buffer₀ from held end k₀ j₀ buffer k j = Moving buffer₀ from held buffer k j × (k ≤ length (drop from (take held buffer₀)))

@@ -1,7 +1,7 @@
--- `bench_line::cut_last` answers its definition, test by test.
+-- `line::cut_last` answers its definition, test by test.
 use borrow.Author.Tests.{lt-ltb, le-ltb}
-use Rattle.bench_line.proofs.cut_last.Statement.{statement}
-use Rattle.bench_line.proofs.cut_last.Tie as tie
+use Rattle.line.proofs.cut_last.Statement.{statement}
+use Rattle.line.proofs.cut_last.Tie as tie
 
 returns : tie.Need-returns
 returns c = simp (c .if1 .taken)
