@@ -47,6 +47,10 @@ hop-all q c d end x y z r e a b =
 
 -- ---- the search
 
+-- what fails from lo to x, and from there to y, fails from lo to y
+pub none-on : (P : ℕ → Bool) (lo x y : ℕ) → ((j : ℕ) → lo ≤ j → j < x → P j ≡ false) → ((j : ℕ) → x ≤ j → j < y → P j ≡ false) → (j : ℕ) → lo ≤ j → j < y → P j ≡ false
+none-on P lo x y n m j a b = ⊎-elim (n j a) (λ k. m j k b) (split j x)
+
 module _ (q : Query) (c : List Relation) (lo hi end x : ℕ) (h : lo ≤ hi) (e : end ≡ searchEnd q c lo hi) (l : lo ≤ x) (n : (j : ℕ) → lo ≤ j → j < x → passesAll q c j ≡ false) where
   enough : Enough (passesAll q c) lo end hi
   enough = subst (λ (u : ℕ). Enough (passesAll q c) lo u hi) (sym e) (search-enough q c lo hi h)
@@ -54,9 +58,6 @@ module _ (q : Query) (c : List Relation) (lo hi end x : ℕ) (h : lo ≤ hi) (e 
   pub search-found : (y : ℕ) → x < end → Hop (passesAll q c) end x y → y ≡ x → x ≡ search q c lo hi
   search-found y k hop g =
       least-one (record { low = l; high = omega (arith, enough .stop); none = n; hit = λ _. hop .hit g k }) (search-least q c lo hi h)
-
-  pub search-next : (y : ℕ) → Hop (passesAll q c) end x y → (j : ℕ) → lo ≤ j → j < y → passesAll q c j ≡ false
-  search-next y hop j a b = ⊎-elim (n j a) (λ k. hop .none j k b) (split j x)
 
   pub search-ended : end ≤ x → hi ≡ search q c lo hi
   search-ended k =

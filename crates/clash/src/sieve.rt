@@ -1,18 +1,53 @@
-// Remainders by 10, 100 and 1000 that rule a search out before it begins.
+// Remainders by powers of ten that rule a search out.
 ghost use mathlib.Core.Path.{_≡_};
 ghost use mathlib.Core.Bool.{Bool, true, false};
 ghost use mathlib.Core.List.{List};
-ghost use Prim.Native.Nat.{ℕ, _≤_, _<_};
+ghost use Prim.Native.Nat.{ℕ, _*_, _%_, _≤_, _<_};
 ghost use Rattle.plural.specs.Meaning.{all};
-ghost use Rattle.clash.specs.Fast.{passesAll};
-ghost use Rattle.clash.specs.Sieve.{allows, someLeft};
-ghost use Rattle.rules.specs.Stretch.{table, relationAt, relationsIn};
-ghost use Rattle.clash.specs.Read.{joinedIn};
+ghost use Rattle.clash.specs.Fast.{ends, passesAll};
+ghost use Rattle.clash.specs.Sieve.{reached, reachedAny, allows, mayPass};
+ghost use Rattle.rules.specs.Stretch.{rangesIn, table, relationAt, relationsIn};
+ghost use Rattle.clash.specs.Read.{cap, joinedIn};
 ghost use Rattle.clash.specs.Hop.{Room};
 use crate::Query;
 use crate::Span;
 use crate::leap;
 use crate::relation;
+
+// The largest power of ten by which remainders are tried: no modulus is larger.
+const LAST_POWER: u64 = 1_000_000;
+
+// Whether one of the numbers from a to b has the remainder of z by m.
+fn reaches(m: u64, z: u64, a: u32, b: u64) -> bool
+    requires { ⌜ (0 < m) × (m ≤ cap) × (z ≤ cap) ⌝ }
+    ensures { λ r. ⌜ r ≡ reached m z a b ⌝ }
+{
+    (a as u64) + (z + (m - (a as u64) % m)) % m <= b
+}
+
+// Whether a remainder by w has it, in the ranges from place `from` to before `to`.
+fn reaches_any<'a>(
+    low: &'a [u32; 2048],
+    high: &'a [u32; 2048],
+    from: usize,
+    to: usize,
+    w: u64,
+    m: u64,
+    z: u64,
+) -> bool
+    requires { ⌜ (0 < w) × (0 < m) × (m ≤ cap) × (z ≤ cap) × (to ≤ 2048) ⌝ }
+    ensures { λ r. ⌜ r ≡ reachedAny w m z (rangesIn (now (low .entry)) (now (high .entry)) from to) ⌝ }
+{
+    let mut k = from;
+    while k < to {
+        let b = leap::lesser(leap::wide(high[k]), w - 1);
+        if reaches(m, z, low[k], b) {
+            return true;
+        }
+        k += 1;
+    }
+    false
+}
 
 // Whether the relation j allows the remainder d by m.
 fn allows_of<'a>(
@@ -38,10 +73,19 @@ fn allows_of<'a>(
     if w == 0 {
         return true;
     }
-    if m % w != 0 {
+    let n = m * s;
+    if n % w == 0 {
+        return relation::holds_of(operand, modulus, negated, ranges, low, high, j, d * s);
+    }
+    if negated[j] {
         return true;
     }
-    relation::holds_of(operand, modulus, negated, ranges, low, high, j, d * s)
+    if w % n != 0 {
+        return true;
+    }
+    let from = relation::start_at(ranges, j);
+    let to = relation::stop_at(ranges, j);
+    reaches_any(low, high, from, to, w, n, d * s)
 }
 
 // Whether each does, of the relations from place `from` to before `to`.
@@ -71,8 +115,18 @@ fn allows_part<'a>(
     true
 }
 
-// The same of the whole clause.
-fn allows_all<'a>(
+// Whether a number may end in d.
+fn ends_in(q: Query, d: u64) -> bool
+    ensures { λ r. ⌜ r ≡ ends q d ⌝ }
+{
+    if !q.odd {
+        return true;
+    }
+    d % 10 != 0
+}
+
+// Whether a number may pass whose remainder by m is d.
+fn may_pass<'a>(
     operand: &'a [u8; 320],
     modulus: &'a [u32; 320],
     negated: &'a [bool; 320],
@@ -85,8 +139,11 @@ fn allows_all<'a>(
     d: u64,
 ) -> bool
     requires { ⌜ Room q m × (d < m) × (s .to ≤ 320) × (s .stop ≤ 320) ⌝ }
-    ensures { λ r. ⌜ r ≡ all (allows q m d) (joinedIn (table (now (operand .entry)) (now (modulus .entry)) (now (negated .entry)) (now (ranges .entry)) (now (low .entry)) (now (high .entry))) s) ⌝ }
+    ensures { λ r. ⌜ r ≡ mayPass q m d (joinedIn (table (now (operand .entry)) (now (modulus .entry)) (now (negated .entry)) (now (ranges .entry)) (now (low .entry)) (now (high .entry))) s) ⌝ }
 {
+    if !ends_in(q, d) {
+        return false;
+    }
     if !allows_part(
         operand,
         modulus,
@@ -117,8 +174,10 @@ fn allows_all<'a>(
     )
 }
 
-// Whether the clause allows a remainder by m.
-fn some_left<'a>(
+// Rules out the numbers whose remainder by m is that of d, and by 10 * m is d or more: by the
+// remainder by 10 * m, and where that does not do, by one more digit. The steps left, or 0 where they
+// do not suffice or a remainder is left.
+fn rule_out<'a>(
     operand: &'a [u8; 320],
     modulus: &'a [u32; 320],
     negated: &'a [bool; 320],
@@ -127,45 +186,77 @@ fn some_left<'a>(
     high: &'a [u32; 2048],
     s: Span,
     q: Query,
-    m: u64,
-) -> bool
-    requires { ⌜ Room q m × (s .to ≤ 320) × (s .stop ≤ 320) ⌝ }
-    ensures { λ r. ⌜ r ≡ someLeft q m (joinedIn (table (now (operand .entry)) (now (modulus .entry)) (now (negated .entry)) (now (ranges .entry)) (now (low .entry)) (now (high .entry))) s) ⌝ }
-{
-    let mut d: u64 = 0;
-    while d < m {
-        if allows_all(operand, modulus, negated, ranges, low, high, s, q, m, d) {
-            return true;
-        }
-        d += 1;
-    }
-    false
-}
-
-// Whether no remainder by m is left, for a search below hi; m must be less than hi.
-fn ruled_out<'a>(
-    operand: &'a [u8; 320],
-    modulus: &'a [u32; 320],
-    negated: &'a [bool; 320],
-    ranges: &'a [usize; 320],
-    low: &'a [u32; 2048],
-    high: &'a [u32; 2048],
-    s: Span,
-    q: Query,
-    m: u64,
     hi: u64,
-) -> bool
-    requires { ⌜ Room q hi × (0 < m) × (s .to ≤ 320) × (s .stop ≤ 320) ⌝ }
-    ensures { λ r. ⌜ (r ≡ true → (x : ℕ) → passesAll q (joinedIn (table (now (operand .entry)) (now (modulus .entry)) (now (negated .entry)) (now (ranges .entry)) (now (low .entry)) (now (high .entry))) s) x ≡ false) ⌝ }
+    m: u64,
+    d: u64,
+    steps: u64,
+) -> u64
+    requires { ⌜ Room q hi × (0 < m) × (m ≤ 1_000_000) × (s .to ≤ 320) × (s .stop ≤ 320) ⌝ }
+    ensures { λ r. ⌜ (0 < r → (x : ℕ) → d ≤ x % (10 * m) → x % m ≡ d % m → passesAll q (joinedIn (table (now (operand .entry)) (now (modulus .entry)) (now (negated .entry)) (now (ranges .entry)) (now (low .entry)) (now (high .entry))) s) x ≡ false) × (r ≤ steps) ⌝ }
 {
-    if hi < m {
-        return false;
+    let next = 10 * m;
+    if next <= d {
+        return steps;
     }
-    let left = some_left(operand, modulus, negated, ranges, low, high, s, q, m);
-    !left
+    if steps == 0 {
+        return 0;
+    }
+    if hi < next {
+        return 0;
+    }
+    if !may_pass(operand, modulus, negated, ranges, low, high, s, q, next, d) {
+        return rule_out(
+            operand,
+            modulus,
+            negated,
+            ranges,
+            low,
+            high,
+            s,
+            q,
+            hi,
+            m,
+            d + m,
+            steps - 1,
+        );
+    }
+    if LAST_POWER <= next {
+        return 0;
+    }
+    let left = rule_out(
+        operand,
+        modulus,
+        negated,
+        ranges,
+        low,
+        high,
+        s,
+        q,
+        hi,
+        next,
+        d,
+        steps - 1,
+    );
+    if left == 0 {
+        return 0;
+    }
+    rule_out(
+        operand,
+        modulus,
+        negated,
+        ranges,
+        low,
+        high,
+        s,
+        q,
+        hi,
+        m,
+        d + m,
+        left,
+    )
 }
 
-// Whether the remainders by 10, 100 or 1000 rule out that a number below hi passes.
+// Whether remainders rule out, in so many steps, that a number below hi passes.
 pub fn blocked<'a>(
     operand: &'a [u8; 320],
     modulus: &'a [u32; 320],
@@ -176,15 +267,25 @@ pub fn blocked<'a>(
     s: Span,
     q: Query,
     hi: u64,
+    steps: u64,
 ) -> bool
     requires { ⌜ Room q hi × (s .to ≤ 320) × (s .stop ≤ 320) ⌝ }
     ensures { λ r. ⌜ (r ≡ true → (x : ℕ) → passesAll q (joinedIn (table (now (operand .entry)) (now (modulus .entry)) (now (negated .entry)) (now (ranges .entry)) (now (low .entry)) (now (high .entry))) s) x ≡ false) ⌝ }
 {
-    if ruled_out(operand, modulus, negated, ranges, low, high, s, q, 10, hi) {
-        return true;
-    }
-    if ruled_out(operand, modulus, negated, ranges, low, high, s, q, 100, hi) {
-        return true;
-    }
-    ruled_out(operand, modulus, negated, ranges, low, high, s, q, 1000, hi)
+    let first: u64 = 0;
+    let left = rule_out(
+        operand,
+        modulus,
+        negated,
+        ranges,
+        low,
+        high,
+        s,
+        q,
+        hi,
+        1,
+        first,
+        steps,
+    );
+    0 < left
 }

@@ -8,67 +8,111 @@ use Rattle.rules.specs.Stretch.{table}
 use Rattle.clash.specs.Read.{joinedIn}
 use Rattle.clash.proofs.Hopping.{room-le}
 use Rattle.clash.proofs.Sieving.{search-none}
-use Rattle.clash.proofs.Searching.{search-found, search-next, search-ended, hop-less, end-le}
+use Rattle.clash.proofs.Searching.{none-on, search-found, search-ended, hop-less, end-le}
 use borrow.Author.Needs.{needs}
 use Rattle.clash.proofs.search.least_number.Statement.{statement}
 use Rattle.clash.proofs.search.least_number.Tie as tie
 
 abbrev Inv-loop : tie.InvT-loop
-Inv-loop operand modulus negated ranges low high s q lo hi end x₀ x = (lo ≤ x) × ((j : ℕ) → lo ≤ j → j < x → passesAll q (joinedIn (table operand modulus negated ranges low high) s) j ≡ false)
+Inv-loop operand modulus negated ranges low high s q lo hi end x₀ steps₀ x steps = (lo ≤ x) × ((j : ℕ) → lo ≤ j → j < x → passesAll q (joinedIn (table operand modulus negated ranges low high) s) j ≡ false)
 
 abbrev μ-loop : tie.MeasureT-loop
-μ-loop operand modulus negated ranges low high s q lo hi end x₀ x = end - x
-
-blocked-requires : tie.Need-blocked-requires Inv-loop μ-loop
-blocked-requires c κs = (c .pre .1, c .pre .2, c .pre .3)
-
-returns : tie.Need-returns Inv-loop μ-loop
-returns c =
-    let s = c .before .before in
-    let a = s .args in
-    let T = table (a .operand .now) (a .modulus .now) (a .negated .now) (a .ranges .now) (a .low .now) (a .high .now) in
-    search-none (a .q) (joinedIn T (a .s)) (a .lo) (a .hi) (s .pre .0) (c .before .blocked .ensures (c .if1 .taken))
+μ-loop operand modulus negated ranges low high s q lo hi end x₀ steps₀ x steps = end - x
 
 window-end-requires : tie.Need-window-end-requires Inv-loop μ-loop
-window-end-requires c κs = (c .before .before .pre .2, c .before .before .pre .3)
+window-end-requires c κs = (c .pre .2, c .pre .3)
 
 loop-holds : tie.Need-loop-holds Inv-loop μ-loop
 loop-holds c = (omega arith, λ j a b. absurd (omega arith))
 
+leap-on-requires : tie.Need-leap-on-requires Inv-loop μ-loop
+leap-on-requires c κs =
+    let l = c .before in
+    let e = l .before .window-end in
+    let s = l .before .before in
+    let a = s .args in
+    let T = table (a .operand .now) (a .modulus .now) (a .negated .now) (a .ranges .now) (a .low .now) (a .high .now) in
+    let P = passesAll (a .q) (joinedIn T (a .s)) in
+    (room-le (a .q) (e .result) (a .hi) (s .pre .1) (end-le (a .q) (joinedIn T (a .s)) (a .lo) (a .hi) (e .result) (s .pre .0) (e .ensures)), s .pre .2, s .pre .3)
+
+returns : tie.Need-returns Inv-loop μ-loop
+returns c =
+    let l = c .before .before .before in
+    let e = l .before .window-end in
+    let s = l .before .before in
+    let a = s .args in
+    let T = table (a .operand .now) (a .modulus .now) (a .negated .now) (a .ranges .now) (a .low .now) (a .high .now) in
+    let P = passesAll (a .q) (joinedIn T (a .s)) in
+    let g = c .before .leap-on in
+    let f = none-on P (a .lo) (l .loop .x) (g .result) (l .loop .inv .1) (g .ensures .1) in
+    search-ended (a .q) (joinedIn T (a .s)) (a .lo) (a .hi) (e .result) (g .result) (s .pre .0) (e .ensures) (omega (arith, l .loop .inv .0, g .ensures .0)) f (search needs)
+
 leap-all-requires : tie.Need-leap-all-requires Inv-loop μ-loop
 leap-all-requires c κs =
-    let a = c .before .before .before .before .before .args in
+    let l = c .before .before .before in
+    let e = l .before .window-end in
+    let s = l .before .before in
+    let a = s .args in
     let T = table (a .operand .now) (a .modulus .now) (a .negated .now) (a .ranges .now) (a .low .now) (a .high .now) in
-    let p = c .before .before .before .before .before .pre in
-    let e = end-le (a .q) (joinedIn T (a .s)) (a .lo) (a .hi) (c .before .before .window-end .result) (p .0) (c .before .before .window-end .ensures) in
-    (room-le (a .q) (c .before .before .window-end .result) (a .hi) (p .1) e, omega (arith, p .1 .self), p .2, p .3)
+    let P = passesAll (a .q) (joinedIn T (a .s)) in
+    let r = room-le (a .q) (e .result) (a .hi) (s .pre .1) (end-le (a .q) (joinedIn T (a .s)) (a .lo) (a .hi) (e .result) (s .pre .0) (e .ensures)) in
+    (r, omega (arith, r .self), s .pre .2, s .pre .3)
 
 returns-2 : tie.Need-returns-2 Inv-loop μ-loop
 returns-2 c =
-    let l = c .before .before .before in
-    let s = l .before .before .before .before in
+    let l = c .before .before .before .before .before in
+    let e = l .before .window-end in
+    let s = l .before .before in
     let a = s .args in
     let T = table (a .operand .now) (a .modulus .now) (a .negated .now) (a .ranges .now) (a .low .now) (a .high .now) in
-    search-found (a .q) (joinedIn T (a .s)) (a .lo) (a .hi) (l .before .window-end .result) (l .loop .x) (s .pre .0) (l .before .window-end .ensures) (l .loop .inv .0) (l .loop .inv .1) (c .before .leap-all .result) (search needs) (c .before .leap-all .ensures) (search needs)
+    let P = passesAll (a .q) (joinedIn T (a .s)) in
+    let g = c .before .before .before .leap-on in
+    let f = none-on P (a .lo) (l .loop .x) (g .result) (l .loop .inv .1) (g .ensures .1) in
+    search-found (a .q) (joinedIn T (a .s)) (a .lo) (a .hi) (e .result) (g .result) (s .pre .0) (e .ensures) (omega (arith, l .loop .inv .0, g .ensures .0)) f (c .before .leap-all .result) (search needs) (c .before .leap-all .ensures) (search needs)
 
-loop-less : tie.Need-loop-less Inv-loop μ-loop
-loop-less c = omega (arith, hop-less (c .before .leap-all .ensures) (search needs))
-
-loop-again : tie.Need-loop-again Inv-loop μ-loop
-loop-again c =
-    let l = c .before .before .before in
-    let s = l .before .before .before .before in
-    let a = s .args in
-    let T = table (a .operand .now) (a .modulus .now) (a .negated .now) (a .ranges .now) (a .low .now) (a .high .now) in
-    (omega (arith, c .before .leap-all .ensures .low, l .loop .inv .0), search-next (a .q) (joinedIn T (a .s)) (a .lo) (a .hi) (l .before .window-end .result) (l .loop .x) (s .pre .0) (l .before .window-end .ensures) (l .loop .inv .0) (l .loop .inv .1) (c .before .leap-all .result) (c .before .leap-all .ensures))
+blocked-requires : tie.Need-blocked-requires Inv-loop μ-loop
+blocked-requires c κs =
+    let s = c .before .before .before .before .before .before .before in
+    (s .pre .1, s .pre .2, s .pre .3)
 
 returns-3 : tie.Need-returns-3 Inv-loop μ-loop
 returns-3 c =
-    let l = c .before in
-    let s = l .before .before .before .before in
+    let s = c .before .before .before .before .before .before .before .before .before in
     let a = s .args in
     let T = table (a .operand .now) (a .modulus .now) (a .negated .now) (a .ranges .now) (a .low .now) (a .high .now) in
-    search-ended (a .q) (joinedIn T (a .s)) (a .lo) (a .hi) (l .before .window-end .result) (l .loop .x) (s .pre .0) (l .before .window-end .ensures) (l .loop .inv .0) (l .loop .inv .1) (search needs)
+    search-none (a .q) (joinedIn T (a .s)) (a .lo) (a .hi) (s .pre .0) (c .before .blocked .ensures (c .if3 .taken))
+
+lesser-requires : tie.Need-lesser-requires Inv-loop μ-loop
+lesser-requires c κs = search needs
+
+mul-steps : tie.Need-mul-steps Inv-loop μ-loop
+mul-steps c = omega (arith, c .lesser .ensures)
+
+loop-less : tie.Need-loop-less Inv-loop μ-loop
+loop-less c = omega (arith, hop-less (c .before .before .before .before .leap-all .ensures) (search needs), c .before .before .before .before .before .before .leap-on .ensures .0)
+
+loop-again : tie.Need-loop-again Inv-loop μ-loop
+loop-again c =
+    let l = c .before .before .before .before .before .before .before .before in
+    let e = l .before .window-end in
+    let s = l .before .before in
+    let a = s .args in
+    let T = table (a .operand .now) (a .modulus .now) (a .negated .now) (a .ranges .now) (a .low .now) (a .high .now) in
+    let P = passesAll (a .q) (joinedIn T (a .s)) in
+    let g = c .before .before .before .before .before .before .leap-on in
+    let f = none-on P (a .lo) (l .loop .x) (g .result) (l .loop .inv .1) (g .ensures .1) in
+    let h = c .before .before .before .before .leap-all in
+    (omega (arith, h .ensures .low, l .loop .inv .0, g .ensures .0), none-on P (a .lo) (g .result) (h .result) f (h .ensures .none))
+
+returns-4 : tie.Need-returns-4 Inv-loop μ-loop
+returns-4 c =
+    let l = c .before in
+    let e = l .before .window-end in
+    let s = l .before .before in
+    let a = s .args in
+    let T = table (a .operand .now) (a .modulus .now) (a .negated .now) (a .ranges .now) (a .low .now) (a .high .now) in
+    let P = passesAll (a .q) (joinedIn T (a .s)) in
+    search-ended (a .q) (joinedIn T (a .s)) (a .lo) (a .hi) (e .result) (l .loop .x) (s .pre .0) (e .ensures) (l .loop .inv .0) (l .loop .inv .1) (search needs)
 
 pub least-number-spec : {M : Type 1} → statement M
 least-number-spec =
@@ -76,12 +120,16 @@ least-number-spec =
     (tie.spec
     Inv-loop
     μ-loop
-    blocked-requires
-    returns
     window-end-requires
     loop-holds
+    leap-on-requires
+    returns
     leap-all-requires
     returns-2
+    blocked-requires
+    returns-3
+    lesser-requires
+    mul-steps
     loop-less
     loop-again
-    returns-3)
+    returns-4)

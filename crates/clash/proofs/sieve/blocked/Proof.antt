@@ -1,33 +1,16 @@
--- `clash::sieve::blocked`: one of the three rules it out.
+-- `clash::sieve::blocked`: every number has the remainder 0 by 1.
 use native.Mathlib.Omega.{arith}
+use native.Mathlib.Nat.{mod-one}
+use mathlib.Core.Path.{sym, _∙_}
+use borrow.Author.Tests.{ltb-true}
 use Rattle.clash.proofs.sieve.blocked.Statement.{statement}
 use Rattle.clash.proofs.sieve.blocked.Tie as tie
 
-ruled-out-requires : tie.Need-ruled-out-requires
-ruled-out-requires c κs = (c .pre .0, omega arith, c .pre .1, c .pre .2)
+rule-out-requires : tie.Need-rule-out-requires
+rule-out-requires c κs = (c .pre .0, omega arith, omega arith, c .pre .1, c .pre .2)
 
 returns : tie.Need-returns
-returns c = λ _. c .before .ruled-out .ensures (c .if1 .taken)
-
-ruled-out-requires-2 : tie.Need-ruled-out-requires-2
-ruled-out-requires-2 c κs = (c .before .before .pre .0, omega arith, c .before .before .pre .1, c .before .before .pre .2)
-
-returns-2 : tie.Need-returns-2
-returns-2 c = λ _. c .before .ruled-out2 .ensures (c .if2 .taken)
-
-ruled-out-requires-3 : tie.Need-ruled-out-requires-3
-ruled-out-requires-3 c κs = (c .before .before .before .before .pre .0, omega arith, c .before .before .before .before .pre .1, c .before .before .before .before .pre .2)
-
-returns-3 : tie.Need-returns-3
-returns-3 c = c .ruled-out3 .ensures
+returns c = λ e x. c .rule-out .ensures .0 (ltb-true _ _ e) x (omega arith) (mod-one x ∙ sym (mod-one 0))
 
 pub blocked-spec : {M : Type 1} → statement M
-blocked-spec =
-    tie.close
-    (tie.spec
-    ruled-out-requires
-    returns
-    ruled-out-requires-2
-    returns-2
-    ruled-out-requires-3
-    returns-3)
+blocked-spec = tie.close (tie.spec rule-out-requires returns)
