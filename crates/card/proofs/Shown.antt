@@ -7,9 +7,9 @@ use Rattle.rules.specs.Syntax.{Rule}
 use Rattle.symbols.specs.Kinds.{kindOf}
 use Rattle.grammar.specs.Reader.{readPack}
 use Rattle.grammar.specs.Reader.PackAnswer.{Rules}
-use Rattle.clash.specs.Check.{checkOf}
-use Rattle.clash.specs.declared.Checked.{Checked}
-use Rattle.clash.proofs.Rows.{clash, packTens, row-tens, packTrailing, row-trailing, packSeven, row-seven}
+use Rattle.clash_laws.specs.Check.{checkOf}
+use Rattle.clash_laws.specs.declared.Checked.{Checked}
+use Rattle.clash_laws.proofs.Rows.{clash, packTens, row-tens, packTrailing, row-trailing, packSeven, row-seven}
 use Rattle.pack_check.specs.Check.{checkedBy, checkPack}
 use Rattle.card.specs.Card.{All, rows, tensPack, trailingPack, sevenPack}
 

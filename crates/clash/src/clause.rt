@@ -6,17 +6,16 @@ ghost use Prim.Native.Nat.{ℕ, suc, _+_, _*_, _^_, _≤_, _<_, min};
 ghost use lib.Dec.{ltb};
 ghost use Rattle.decimal.specs.Choice.{if_then_else_};
 ghost use Rattle.number.specs.Limits.{maxExponent, maxDigits, maxPlaces};
-ghost use Rattle.clash.specs.Check.{lowest, block, ranks};
-ghost use Rattle.clash.specs.Fast.{integerOf, kindRank, clauseRank};
+ghost use Rattle.clash_laws.specs.Check.{lowest, block, ranks};
+ghost use Rattle.clash_laws.specs.Fast.{integerOf, kindRank, clauseRank};
 ghost use Rattle.rules.specs.Stretch.{table};
-ghost use Rattle.clash.specs.Read.{joinedIn};
-ghost use Rattle.clash.specs.Spots.{spotRank, Proper};
-use crate::Query;
-use crate::Span;
-use crate::Spot;
+ghost use Rattle.clash_laws.specs.Read.{joinedIn};
+ghost use Rattle.clash_laws.specs.Spots.{spotRank, Proper};
 use crate::fraction;
 use crate::limits;
-use crate::search;
+use clash_laws::Query;
+use clash_laws::Span;
+use clash_laws::Spot;
 
 // No number: its rank is past all ranks.
 pub fn nowhere() -> Spot
@@ -99,7 +98,7 @@ fn integer_of<'a>(
         odd: false,
     };
     let lo = lowest_of(e);
-    search::least_number(
+    leaps::least_number(
         operand,
         modulus,
         negated,

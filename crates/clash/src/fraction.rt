@@ -2,21 +2,25 @@
 ghost use mathlib.Core.Path.{_≡_};
 ghost use mathlib.Core.Bool.{Bool};
 ghost use mathlib.Core.List.{List};
-ghost use Prim.Native.Nat.{ℕ, suc, _-_, _^_, _≤_, _<_};
+ghost use Prim.Native.Nat.{ℕ, suc, _-_, _^_, _≤_, _<_, min};
 ghost use Rattle.number.specs.Limits.{maxExponent, maxPlaces};
 ghost use lib.Dec.{ltb};
 ghost use Rattle.decimal.specs.Choice.{both};
 ghost use Rattle.plural.specs.Meaning.{all};
 ghost use Rattle.least.specs.Seek.{seek};
-ghost use Rattle.clash.specs.Fast.{settledF, exponentOf, wholeCode, tailOf, tailPlaces, tailCode, partCode, fractionCode};
+ghost use Rattle.clash_laws.specs.Fast.{settledF, exponentOf, wholeCode, tailOf, tailPlaces, tailCode, partCode, fractionCode};
 ghost use Rattle.rules.specs.Stretch.{table};
-ghost use Rattle.clash.specs.Read.{joinedIn};
-use crate::Query;
-use crate::Span;
-use crate::leap;
+ghost use Rattle.clash_laws.specs.Read.{joinedIn};
 use crate::limits;
-use crate::search;
 use crate::settle;
+use clash_laws::Query;
+use clash_laws::Span;
+
+fn lesser(a: u64, b: u64) -> u64
+    ensures { λ r. ⌜ r ≡ min a b ⌝ }
+{
+    if a < b { a } else { b }
+}
 
 // 10^k.
 pub fn power(k: u64) -> u64
@@ -192,7 +196,7 @@ fn tail_of<'a>(
         t: 1,
         odd: true,
     };
-    search::least_number(operand, modulus, negated, ranges, low, high, s, q, 0, end)
+    leaps::least_number(operand, modulus, negated, ranges, low, high, s, q, 0, end)
 }
 
 // The least v and f, where f ends in k zeros and is not 0. There is no search where no v is settled.
@@ -239,7 +243,7 @@ fn part_code<'a>(
         if best <= (k + 1) * limits::FRACTION_LIMIT {
             return best;
         }
-        best = leap::lesser(
+        best = lesser(
             best,
             tail_code(operand, modulus, negated, ranges, low, high, s, k),
         );

@@ -4,13 +4,13 @@ ghost use mathlib.Core.Bool.{Bool};
 ghost use mathlib.Core.List.{List, _++_};
 ghost use Prim.Native.Nat.{ℕ, suc, _+_, _-_, _≤_, _<_, min};
 ghost use lib.ListN.{getD};
-ghost use Rattle.clash.specs.Fast.{clauseRank, fastRank, withEach, bothOf};
+ghost use Rattle.clash_laws.specs.Fast.{clauseRank, fastRank, withEach, bothOf};
 ghost use Rattle.rules.specs.Stretch.{startAt, table, clauseAt, clausesIn};
-ghost use Rattle.clash.specs.Read.{ruleClauses};
-ghost use Rattle.clash.specs.Spots.{spotRank, Proper};
-use crate::Span;
-use crate::Spot;
+ghost use Rattle.clash_laws.specs.Read.{ruleClauses};
+ghost use Rattle.clash_laws.specs.Spots.{spotRank, Proper};
 use crate::clause;
+use clash_laws::Span;
+use clash_laws::Spot;
 
 const MAX_RELATIONS: usize = 320;
 

@@ -5,11 +5,10 @@ ghost use mathlib.Core.List.{List};
 ghost use Prim.Native.Nat.{ℕ, _≤_, _<_};
 ghost use Rattle.plural.specs.Meaning.{all};
 ghost use Rattle.rules.specs.Syntax.{Relation};
-ghost use Rattle.clash.specs.Fast.{passes, queryT, ofExponent, settledE, settledF};
+ghost use Rattle.clash_laws.specs.Fast.{passes, queryT, ofExponent, settledE, settledF};
 ghost use Rattle.rules.specs.Stretch.{table, relationAt, relationsIn};
-ghost use Rattle.clash.specs.Read.{cap, joinedIn};
-use crate::Span;
-use crate::relation;
+ghost use Rattle.clash_laws.specs.Read.{cap, joinedIn};
+use clash_laws::Span;
 
 // Whether the letter is that of the exponent: none of the others.
 fn of_exponent(o: u8) -> bool
@@ -48,7 +47,7 @@ fn settled_e_of<'a>(
     ensures { λ r. ⌜ r ≡ settledE e (relationAt (table (now (operand .entry)) (now (modulus .entry)) (now (negated .entry)) (now (ranges .entry)) (now (low .entry)) (now (high .entry))) j) ⌝ }
 {
     if of_exponent(operand[j]) {
-        return relation::holds_of(operand, modulus, negated, ranges, low, high, j, e);
+        return leaps::holds_of(operand, modulus, negated, ranges, low, high, j, e);
     }
     true
 }
@@ -76,10 +75,10 @@ fn settled_f_of<'a>(
         return negated[j];
     }
     if o == 118 {
-        return relation::holds_of(operand, modulus, negated, ranges, low, high, j, v);
+        return leaps::holds_of(operand, modulus, negated, ranges, low, high, j, v);
     }
     if o == 119 {
-        return relation::holds_of(operand, modulus, negated, ranges, low, high, j, w);
+        return leaps::holds_of(operand, modulus, negated, ranges, low, high, j, w);
     }
     true
 }
@@ -99,10 +98,10 @@ fn zero_of<'a>(
 {
     let o = operand[j];
     if o == 102 {
-        return relation::holds_of(operand, modulus, negated, ranges, low, high, j, 0);
+        return leaps::holds_of(operand, modulus, negated, ranges, low, high, j, 0);
     }
     if o == 116 {
-        return relation::holds_of(operand, modulus, negated, ranges, low, high, j, 0);
+        return leaps::holds_of(operand, modulus, negated, ranges, low, high, j, 0);
     }
     true
 }

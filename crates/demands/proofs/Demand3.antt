@@ -33,11 +33,11 @@ use Rattle.plural.specs.Words.{MeetsAt}
 use Rattle.plural.specs.declared.Selection.{Selection}
 use Rattle.plural.specs.declared.Selection.the-variants.{Word}
 use Rattle.plural.proofs.Chosen.{counted, behind-counted, first-le, first-meets, second-meets, met-sign}
-use Rattle.clash.specs.Check.{numberAt, checkOf}
-use Rattle.clash.specs.Claims.{IsAdmitted, MeetsBoth, Apart, ruleAt, AllApart, Lowest, Claims}
-use Rattle.clash.specs.declared.Checked.{Checked}
-use Rattle.clash.specs.declared.Checked.the-variants.{Passes as RulesPass, Clashes}
-use Rattle.clash.proofs.Claimed.{check-claims, passes-apart, apart-passes}
+use Rattle.clash_laws.specs.Check.{numberAt, checkOf}
+use Rattle.clash_laws.specs.Claims.{IsAdmitted, MeetsBoth, Apart, ruleAt, AllApart, Lowest, Claims}
+use Rattle.clash_laws.specs.declared.Checked.{Checked}
+use Rattle.clash_laws.specs.declared.Checked.the-variants.{Passes as RulesPass, Clashes}
+use Rattle.clash_laws.proofs.Claimed.{check-claims, passes-apart, apart-passes}
 use Rattle.pack_check.specs.Check.{checkedBy, checkRules, checkPack}
 use Rattle.pack_check.specs.declared.PackCheck.{PackCheck}
 use Rattle.pack_check.specs.declared.PackCheck.the-variants.{Passes, Refused}

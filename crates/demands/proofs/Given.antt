@@ -36,11 +36,11 @@ use Rattle.plural.specs.declared.Selection.{Selection}
 use Rattle.plural.specs.declared.Selection.the-variants.{Refused as SelectionRefused}
 use Rattle.plural.proofs.Chosen.{told, only-told}
 use Rattle.select.specs.Select.{selectNumber, selectRules, selectOf}
-use Rattle.clash.specs.Check.{checkOf}
-use Rattle.clash.specs.Claims.{AllApart, Before, Claims, Lowest}
-use Rattle.clash.specs.declared.Checked.{Checked}
-use Rattle.clash.specs.declared.Checked.the-variants.{Passes as RulesPass, Clashes}
-use Rattle.clash.proofs.Claimed.{check-claims, apart-passes}
+use Rattle.clash_laws.specs.Check.{checkOf}
+use Rattle.clash_laws.specs.Claims.{AllApart, Before, Claims, Lowest}
+use Rattle.clash_laws.specs.declared.Checked.{Checked}
+use Rattle.clash_laws.specs.declared.Checked.the-variants.{Passes as RulesPass, Clashes}
+use Rattle.clash_laws.proofs.Claimed.{check-claims, apart-passes}
 use Rattle.pack_check.specs.Check.{checkedBy, checkRules, checkPack}
 use Rattle.pack_check.specs.declared.PackCheck.{PackCheck}
 use Rattle.pack_check.specs.declared.PackCheck.the-variants.{Passes, Refused as CheckRefused}

@@ -28,7 +28,7 @@ use Rattle.grammar.proofs.Table.{First, Tree}
 use Rattle.plural.specs.Words.{Chosen}
 use Rattle.plural.specs.declared.Selection.{Selection}
 use Rattle.plural.specs.declared.Selection.the-variants.{Refused as SelectionRefused}
-use Rattle.clash.specs.Claims.{AllApart, Lowest}
+use Rattle.clash_laws.specs.Claims.{AllApart, Lowest}
 use Rattle.pack_check.specs.declared.PackCheck.{PackCheck}
 use Rattle.pack_check.specs.declared.PackCheck.the-variants.{Passes, Refused as CheckRefused}
 use Rattle.symbols.specs.Entries.{symbolIn, standardRecord}

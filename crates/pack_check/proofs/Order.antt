@@ -10,7 +10,7 @@ use Rattle.grammar.specs.Reader.PackAnswer.{Rules, Refused as PackRefused}
 use Rattle.pack.specs.Answer.{verdictOf, rulesOf}
 use Rattle.pack.specs.declared.Verdict.{Verdict}
 use Rattle.pack.specs.declared.Verdict.the-variants.{Good, Refused as Bad}
-use Rattle.clash.specs.Check.{checkOf}
+use Rattle.clash_laws.specs.Check.{checkOf}
 use Rattle.pack_check.specs.Check.{checkedBy, checkRules}
 use Rattle.pack_check.specs.declared.PackCheck.the-variants.{Refused}
 

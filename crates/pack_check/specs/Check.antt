@@ -4,9 +4,9 @@ use Prim.Native.Nat.{ℕ}
 use Rattle.answer.specs.declared.Refusal.the-variants.{RulesClash}
 use Rattle.grammar.specs.Reader.{PackAnswer, readPack}
 use Rattle.grammar.specs.Reader.PackAnswer.{Rules, Refused as PackRefused}
-use Rattle.clash.specs.Check.{checkOf}
-use Rattle.clash.specs.declared.Checked.{Checked}
-use Rattle.clash.specs.declared.Checked.the-variants.{Passes as RulesPass, Clashes}
+use Rattle.clash_laws.specs.Check.{checkOf}
+use Rattle.clash_laws.specs.declared.Checked.{Checked}
+use Rattle.clash_laws.specs.declared.Checked.the-variants.{Passes as RulesPass, Clashes}
 use Rattle.pack_check.specs.declared.PackCheck.{PackCheck}
 use Rattle.pack_check.specs.declared.PackCheck.the-variants.{Passes, Refused}
 

@@ -3,7 +3,7 @@
 ghost use mathlib.Core.Path.{_≡_};
 ghost use Rattle.pack_check.specs.Check.{checkedBy, checkPack};
 use answer::Refusal;
-use clash::Checked;
+use clash_laws::Checked;
 use pack::Verdict;
 
 pub enum PackCheck {

@@ -1,5 +1,5 @@
 -- `clash::check`: the pairs in turn are those of the rules that the pack holds.
-use Rattle.clash.proofs.Holding.{held-is}
+use Rattle.clash_laws.proofs.Holding.{held-is}
 use borrow.Author.Needs.{needs}
 use Rattle.clash.proofs.check.Statement.{statement}
 use Rattle.clash.proofs.check.Tie as tie

@@ -1,7 +1,7 @@
 -- `clash::clause::clause_spot` takes the earlier kind at the least exponent.
 use Rattle.rules.specs.Stretch.{table}
-use Rattle.clash.specs.Read.{joinedIn}
-use Rattle.clash.proofs.Spotting.{clause-none, clause-some}
+use Rattle.clash_laws.specs.Read.{joinedIn}
+use Rattle.clash_laws.proofs.Spotting.{clause-none, clause-some}
 use borrow.Author.Needs.{needs}
 use Rattle.clash.proofs.clause.clause_spot.Statement.{statement}
 use Rattle.clash.proofs.clause.clause_spot.Tie as tie

@@ -1,6 +1,6 @@
 -- `clash::clause::earlier` takes the lesser rank.
-use Rattle.clash.specs.Spots.{spotRank}
-use Rattle.clash.proofs.Spotting.{first-least, second-least}
+use Rattle.clash_laws.specs.Spots.{spotRank}
+use Rattle.clash_laws.proofs.Spotting.{first-least, second-least}
 use borrow.Author.Needs.{needs}
 use Rattle.clash.proofs.clause.earlier.Statement.{statement}
 use Rattle.clash.proofs.clause.earlier.Tie as tie

@@ -1,7 +1,7 @@
 -- `clash::clause::kind_spot`: no f, no i, or both.
 use Rattle.rules.specs.Stretch.{table}
-use Rattle.clash.specs.Read.{joinedIn}
-use Rattle.clash.proofs.Spotting.{kind-no-fraction, kind-no-integer, kind-found, kind-proper}
+use Rattle.clash_laws.specs.Read.{joinedIn}
+use Rattle.clash_laws.proofs.Spotting.{kind-no-fraction, kind-no-integer, kind-found, kind-proper}
 use borrow.Author.Needs.{needs}
 use Rattle.clash.proofs.clause.kind_spot.Statement.{statement}
 use Rattle.clash.proofs.clause.kind_spot.Tie as tie

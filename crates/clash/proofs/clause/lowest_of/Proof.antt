@@ -1,5 +1,5 @@
 -- `clash::clause::lowest_of`: 0 for no exponent.
-use Rattle.clash.proofs.Spotting.{low-none, low-some}
+use Rattle.clash_laws.proofs.Spotting.{low-none, low-some}
 use borrow.Author.Needs.{needs}
 use Rattle.clash.proofs.clause.lowest_of.Statement.{statement}
 use Rattle.clash.proofs.clause.lowest_of.Tie as tie

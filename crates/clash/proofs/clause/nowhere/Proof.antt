@@ -1,5 +1,5 @@
 -- `clash::clause::nowhere` has the rank past all.
-use Rattle.clash.proofs.Spotting.{nowhere-rank, nowhere-proper}
+use Rattle.clash_laws.proofs.Spotting.{nowhere-rank, nowhere-proper}
 use Rattle.clash.proofs.clause.nowhere.Statement.{statement}
 use Rattle.clash.proofs.clause.nowhere.Tie as tie
 

@@ -1,5 +1,5 @@
 -- `clash::clause::precedes` compares digit by digit.
-use Rattle.clash.proofs.Spotting.{order-e, order-v, order-i, order-f}
+use Rattle.clash_laws.proofs.Spotting.{order-e, order-v, order-i, order-f}
 use borrow.Author.Needs.{needs}
 use Rattle.clash.proofs.clause.precedes.Statement.{statement}
 use Rattle.clash.proofs.clause.precedes.Tie as tie

@@ -3,7 +3,7 @@ use native.Mathlib.Omega.{arith}
 use Prim.Native.Nat.{_-_}
 use mathlib.Core.Path.{_≡_, refl, sym, _∙_}
 use Rattle.rules.specs.Stretch.{table}
-use Rattle.clash.proofs.Answering.{FromRule, rules-found, rules-more, rules-end}
+use Rattle.clash_laws.proofs.Answering.{FromRule, rules-found, rules-more, rules-end}
 use borrow.Author.Needs.{needs}
 use Rattle.clash.proofs.first.first_pair.Statement.{statement}
 use Rattle.clash.proofs.first.first_pair.Tie as tie

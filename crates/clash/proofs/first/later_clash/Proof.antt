@@ -3,8 +3,8 @@ use native.Mathlib.Omega.{arith}
 use Prim.Native.Nat.{_≤_, _+_, _-_}
 use mathlib.Core.Path.{_≡_, refl, _∙_}
 use Rattle.rules.specs.Stretch.{table}
-use Rattle.clash.specs.declared.Checked.{Checked}
-use Rattle.clash.proofs.Answering.{From, behind-more, behind-found, behind-none}
+use Rattle.clash_laws.specs.declared.Checked.{Checked}
+use Rattle.clash_laws.proofs.Answering.{From, behind-more, behind-found, behind-none}
 use borrow.Author.Needs.{needs}
 use Rattle.clash.proofs.first.later_clash.Statement.{statement}
 use Rattle.clash.proofs.first.later_clash.Tie as tie

@@ -4,10 +4,10 @@ use Prim.Native.Nat.{ℕ, suc, _≤_, _-_}
 use mathlib.Core.Path.{refl}
 use Rattle.number.specs.Limits.{maxExponent}
 use Rattle.plural.specs.Meaning.{all}
-use Rattle.clash.specs.Fast.{settledE}
+use Rattle.clash_laws.specs.Fast.{settledE}
 use Rattle.rules.specs.Stretch.{table}
-use Rattle.clash.specs.Read.{joinedIn}
-use Rattle.clash.proofs.Placing.{Before, before-start, before-more, seek-at, seek-none, exponent-is}
+use Rattle.clash_laws.specs.Read.{joinedIn}
+use Rattle.clash_laws.proofs.Placing.{Before, before-start, before-more, seek-at, seek-none, exponent-is}
 use borrow.Author.Needs.{needs}
 use Rattle.clash.proofs.fraction.exponent_of.Statement.{statement}
 use Rattle.clash.proofs.fraction.exponent_of.Tie as tie

@@ -1,7 +1,7 @@
 -- `clash::fraction::fraction_code` is one or the other.
 use Rattle.rules.specs.Stretch.{table}
-use Rattle.clash.specs.Read.{joinedIn}
-use Rattle.clash.proofs.Placing.{code-whole, code-part}
+use Rattle.clash_laws.specs.Read.{joinedIn}
+use Rattle.clash_laws.proofs.Placing.{code-whole, code-part}
 use borrow.Author.Needs.{needs}
 use Rattle.clash.proofs.fraction.fraction_code.Statement.{statement}
 use Rattle.clash.proofs.fraction.fraction_code.Tie as tie

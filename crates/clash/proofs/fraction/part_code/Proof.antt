@@ -3,10 +3,10 @@ use native.Mathlib.Omega.{arith}
 use Prim.Native.Nat.{_≤_, _-_}
 use mathlib.Core.Path.{_≡_}
 use Rattle.number.specs.Limits.{maxPlaces}
-use Rattle.clash.specs.Fast.{partCode}
+use Rattle.clash_laws.specs.Fast.{partCode}
 use Rattle.rules.specs.Stretch.{table}
-use Rattle.clash.specs.Read.{joinedIn}
-use Rattle.clash.proofs.Placing.{part-start, part-more, part-stop, part-end}
+use Rattle.clash_laws.specs.Read.{joinedIn}
+use Rattle.clash_laws.proofs.Placing.{part-start, part-more, part-stop, part-end}
 use borrow.Author.Needs.{needs}
 use Rattle.clash.proofs.fraction.part_code.Statement.{statement}
 use Rattle.clash.proofs.fraction.part_code.Tie as tie

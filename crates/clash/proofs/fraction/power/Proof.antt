@@ -3,7 +3,7 @@ use native.Mathlib.Omega.{arith}
 use Prim.Native.Nat.{_≤_, _-_, _^_}
 use mathlib.Core.Path.{_≡_, refl, ap, _∙_}
 use Prim.Native.Nat.{ℕ}
-use Rattle.clash.proofs.Placing.{power-more, power-room}
+use Rattle.clash_laws.proofs.Placing.{power-more, power-room}
 use borrow.Author.Needs.{needs}
 use Rattle.clash.proofs.fraction.power.Statement.{statement}
 use Rattle.clash.proofs.fraction.power.Tie as tie

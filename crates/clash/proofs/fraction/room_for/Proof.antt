@@ -3,7 +3,7 @@ use mathlib.Core.Path.{ap}
 use Prim.Native.Nat.{ℕ}
 use lib.Dec.{ltb}
 use borrow.Author.Tests.{not-true, not-false}
-use Rattle.clash.proofs.Placing.{both-no, both-yes}
+use Rattle.clash_laws.proofs.Placing.{both-no, both-yes}
 use borrow.Author.Needs.{needs}
 use Rattle.clash.proofs.fraction.room_for.Statement.{statement}
 use Rattle.clash.proofs.fraction.room_for.Tie as tie

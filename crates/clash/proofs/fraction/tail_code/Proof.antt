@@ -1,8 +1,8 @@
 -- `clash::fraction::tail_code`: no v, no v with room for t, or the least v with the least t.
 use native.Mathlib.Omega.{arith}
 use Rattle.rules.specs.Stretch.{table}
-use Rattle.clash.specs.Read.{joinedIn}
-use Rattle.clash.proofs.Placing.{tail-unsettled, tail-none, tail-some, tail-room}
+use Rattle.clash_laws.specs.Read.{joinedIn}
+use Rattle.clash_laws.proofs.Placing.{tail-unsettled, tail-none, tail-some, tail-room}
 use borrow.Author.Needs.{needs}
 use Rattle.clash.proofs.fraction.tail_code.Statement.{statement}
 use Rattle.clash.proofs.fraction.tail_code.Tie as tie

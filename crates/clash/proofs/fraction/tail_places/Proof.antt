@@ -7,10 +7,10 @@ use Rattle.plural.specs.Meaning.{all}
 use Rattle.decimal.specs.Choice.{both}
 use lib.Dec.{ltb}
 use Prim.Native.Nat.{_^_}
-use Rattle.clash.specs.Fast.{settledF}
+use Rattle.clash_laws.specs.Fast.{settledF}
 use Rattle.rules.specs.Stretch.{table}
-use Rattle.clash.specs.Read.{joinedIn}
-use Rattle.clash.proofs.Placing.{Before, before-start, before-more, seek-at, seek-none, places-is}
+use Rattle.clash_laws.specs.Read.{joinedIn}
+use Rattle.clash_laws.proofs.Placing.{Before, before-start, before-more, seek-at, seek-none, places-is}
 use borrow.Author.Needs.{needs}
 use Rattle.clash.proofs.fraction.tail_places.Statement.{statement}
 use Rattle.clash.proofs.fraction.tail_places.Tie as tie

@@ -2,8 +2,8 @@
 use native.Mathlib.Omega.{arith}
 use borrow.Author.Tests.{not-true, not-false}
 use Rattle.rules.specs.Stretch.{table}
-use Rattle.clash.specs.Read.{joinedIn}
-use Rattle.clash.proofs.Placing.{whole-none, whole-some}
+use Rattle.clash_laws.specs.Read.{joinedIn}
+use Rattle.clash_laws.proofs.Placing.{whole-none, whole-some}
 use borrow.Author.Needs.{needs}
 use Rattle.clash.proofs.fraction.whole_code.Statement.{statement}
 use Rattle.clash.proofs.fraction.whole_code.Tie as tie

@@ -2,10 +2,10 @@
 use native.Mathlib.Omega.{arith}
 use Prim.Native.Nat.{_-_, min}
 use mathlib.Core.Path.{_≡_, sym, _∙_}
-use Rattle.clash.specs.Fast.{fastRank, bothOf}
+use Rattle.clash_laws.specs.Fast.{fastRank, bothOf}
 use Rattle.rules.specs.Stretch.{table, clausesIn}
-use Rattle.clash.specs.Spots.{spotRank, Proper}
-use Rattle.clash.proofs.Pairing.{both-start, both-more, both-end}
+use Rattle.clash_laws.specs.Spots.{spotRank, Proper}
+use Rattle.clash_laws.proofs.Pairing.{both-start, both-more, both-end}
 use borrow.Author.Needs.{needs}
 use Rattle.clash.proofs.joined.both_spot.Statement.{statement}
 use Rattle.clash.proofs.joined.both_spot.Tie as tie

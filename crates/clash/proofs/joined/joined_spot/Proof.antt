@@ -1,7 +1,7 @@
 -- `clash::joined::joined_spot` is that of the two stretches.
 use native.Mathlib.Omega.{arith}
 use Rattle.rules.specs.Stretch.{table}
-use Rattle.clash.proofs.Pairing.{joined-is}
+use Rattle.clash_laws.proofs.Pairing.{joined-is}
 use borrow.Author.Needs.{needs}
 use Rattle.clash.proofs.joined.joined_spot.Statement.{statement}
 use Rattle.clash.proofs.joined.joined_spot.Tie as tie

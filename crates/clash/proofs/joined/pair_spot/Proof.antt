@@ -1,7 +1,7 @@
 -- `clash::joined::pair_spot` is that of the two rules' clauses.
 use native.Mathlib.Omega.{arith}
 use Rattle.rules.specs.Stretch.{table}
-use Rattle.clash.proofs.Pairing.{pair-is}
+use Rattle.clash_laws.proofs.Pairing.{pair-is}
 use borrow.Author.Needs.{needs}
 use Rattle.clash.proofs.joined.pair_spot.Statement.{statement}
 use Rattle.clash.proofs.joined.pair_spot.Tie as tie

@@ -2,10 +2,10 @@
 use native.Mathlib.Omega.{arith}
 use Prim.Native.Nat.{_-_, min}
 use mathlib.Core.Path.{_≡_, refl, sym, _∙_}
-use Rattle.clash.specs.Fast.{fastRank, withEach}
+use Rattle.clash_laws.specs.Fast.{fastRank, withEach}
 use Rattle.rules.specs.Stretch.{table, clauseAt, clausesIn}
-use Rattle.clash.specs.Spots.{spotRank, Proper}
-use Rattle.clash.proofs.Pairing.{each-more, each-end}
+use Rattle.clash_laws.specs.Spots.{spotRank, Proper}
+use Rattle.clash_laws.proofs.Pairing.{each-more, each-end}
 use borrow.Author.Needs.{needs}
 use Rattle.clash.proofs.joined.with_each.Statement.{statement}
 use Rattle.clash.proofs.joined.with_each.Tie as tie

@@ -1,5 +1,5 @@
 -- `clash::settle::of_exponent`: a way for each other letter.
-use Rattle.clash.proofs.Settling.{exponent-n, exponent-i, exponent-f, exponent-t, exponent-v, exponent-last}
+use Rattle.clash_laws.proofs.Settling.{exponent-n, exponent-i, exponent-f, exponent-t, exponent-v, exponent-last}
 use borrow.Author.Needs.{needs}
 use Rattle.clash.proofs.settle.of_exponent.Statement.{statement}
 use Rattle.clash.proofs.settle.of_exponent.Tie as tie

@@ -1,8 +1,8 @@
 -- `clash::settle::settled_e` asks the one stretch, then the other.
 use borrow.Author.Tests.{not-true, not-false}
-use Rattle.clash.specs.Fast.{settledE}
+use Rattle.clash_laws.specs.Fast.{settledE}
 use Rattle.rules.specs.Stretch.{table, relationsIn}
-use Rattle.clash.proofs.Settling.{join-no, join-yes}
+use Rattle.clash_laws.proofs.Settling.{join-no, join-yes}
 use borrow.Author.Needs.{needs}
 use Rattle.clash.proofs.settle.settled_e.Statement.{statement}
 use Rattle.clash.proofs.settle.settled_e.Tie as tie

@@ -1,6 +1,8 @@
 -- `clash::settle::settled_e_of`: only relations of the exponent are settled by it.
+use mathlib.Core.Path.{_∙_}
 use Rattle.rules.specs.Stretch.{table, relationAt}
-use Rattle.clash.proofs.Settling.{at-exponent, no-exponent}
+use Rattle.clash_laws.proofs.Settling.{at-exponent, no-exponent}
+use Rattle.clash_laws.proofs.Readying.{holds-ready}
 use borrow.Author.Needs.{needs}
 use Rattle.clash.proofs.settle.settled_e_of.Statement.{statement}
 use Rattle.clash.proofs.settle.settled_e_of.Tie as tie
@@ -17,8 +19,9 @@ holds-of-requires c κs = search needs
 returns : tie.Need-returns
 returns c =
     let a = c .before .before .before .before .args in
+    let p = c .before .before .before .before .pre in
     let T = table (a .operand .now) (a .modulus .now) (a .negated .now) (a .ranges .now) (a .low .now) (a .high .now) in
-    at-exponent (relationAt T (a .j)) (c .before .before .of-exponent .result) (a .e) (c .holds-of .result) (c .before .before .of-exponent .ensures) (c .before .if1 .taken) (c .holds-of .ensures)
+    at-exponent (relationAt T (a .j)) (c .before .before .of-exponent .result) (a .e) (c .holds-of .result) (c .before .before .of-exponent .ensures) (c .before .if1 .taken) (c .holds-of .ensures ∙ holds-ready T (a .j) (a .e) (p .1) (p .0))
 
 returns-2 : tie.Need-returns-2
 returns-2 c =

@@ -1,6 +1,8 @@
 -- `clash::settle::settled_f_of`: n, v and w are settled, each a way.
+use mathlib.Core.Path.{_∙_}
 use Rattle.rules.specs.Stretch.{table, relationAt}
-use Rattle.clash.proofs.Settling.{n-whole, n-part, at-v, at-w, at-other}
+use Rattle.clash_laws.proofs.Settling.{n-whole, n-part, at-v, at-w, at-other}
+use Rattle.clash_laws.proofs.Readying.{holds-ready}
 use borrow.Author.Needs.{needs}
 use Rattle.clash.proofs.settle.settled_f_of.Statement.{statement}
 use Rattle.clash.proofs.settle.settled_f_of.Tie as tie
@@ -30,7 +32,7 @@ returns-3 : tie.Need-returns-3
 returns-3 c =
     let a = c .before .before .before .before .args in
     let T = table (a .operand .now) (a .modulus .now) (a .negated .now) (a .ranges .now) (a .low .now) (a .high .now) in
-    at-v (relationAt T (a .j)) (a .v) (a .w) (c .holds-of .result) (search needs) (search needs) (c .holds-of .ensures)
+    at-v (relationAt T (a .j)) (a .v) (a .w) (c .holds-of .result) (search needs) (search needs) (c .holds-of .ensures ∙ holds-ready T (a .j) (a .v) (c .before .before .before .before .pre .2) (c .before .before .before .before .pre .0))
 
 holds-of-requires-2 : tie.Need-holds-of-requires-2
 holds-of-requires-2 c κs = search needs
@@ -39,7 +41,7 @@ returns-4 : tie.Need-returns-4
 returns-4 c =
     let a = c .before .before .before .before .before .args in
     let T = table (a .operand .now) (a .modulus .now) (a .negated .now) (a .ranges .now) (a .low .now) (a .high .now) in
-    at-w (relationAt T (a .j)) (a .v) (a .w) (c .holds-of2 .result) (search needs) (search needs) (search needs) (c .holds-of2 .ensures)
+    at-w (relationAt T (a .j)) (a .v) (a .w) (c .holds-of2 .result) (search needs) (search needs) (search needs) (c .holds-of2 .ensures ∙ holds-ready T (a .j) (a .w) (c .before .before .before .before .before .pre .2) (c .before .before .before .before .before .pre .1))
 
 returns-5 : tie.Need-returns-5
 returns-5 c =

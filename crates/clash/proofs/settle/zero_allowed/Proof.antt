@@ -1,9 +1,9 @@
 -- `clash::settle::zero_allowed` asks the one stretch, then the other.
 use borrow.Author.Tests.{not-true, not-false}
 use Rattle.rules.specs.Syntax.{Relation}
-use Rattle.clash.specs.Fast.{passes, queryT}
+use Rattle.clash_laws.specs.Fast.{passes, queryT}
 use Rattle.rules.specs.Stretch.{table, relationsIn}
-use Rattle.clash.proofs.Settling.{join-no, join-yes}
+use Rattle.clash_laws.proofs.Settling.{join-no, join-yes}
 use borrow.Author.Needs.{needs}
 use Rattle.clash.proofs.settle.zero_allowed.Statement.{statement}
 use Rattle.clash.proofs.settle.zero_allowed.Tie as tie

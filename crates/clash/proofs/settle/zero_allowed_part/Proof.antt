@@ -3,9 +3,9 @@ use Prim.Native.Nat.{_-_}
 use mathlib.Core.Path.{_≡_, refl, sym, _∙_}
 use borrow.Author.Tests.{not-true, not-false}
 use Rattle.rules.specs.Syntax.{Relation}
-use Rattle.clash.specs.Fast.{passes, queryT}
+use Rattle.clash_laws.specs.Fast.{passes, queryT}
 use Rattle.rules.specs.Stretch.{table}
-use Rattle.clash.proofs.Settling.{Every, every-more, every-stop, every-end}
+use Rattle.clash_laws.proofs.Settling.{Every, every-more, every-stop, every-end}
 use borrow.Author.Needs.{needs}
 use Rattle.clash.proofs.settle.zero_allowed_part.Statement.{statement}
 use Rattle.clash.proofs.settle.zero_allowed_part.Tie as tie

@@ -1,6 +1,9 @@
 -- `clash::settle::zero_of`: only relations of f and t say whether f can be 0.
+use mathlib.Core.Path.{_∙_}
+use native.Mathlib.Omega.{arith}
 use Rattle.rules.specs.Stretch.{table, relationAt}
-use Rattle.clash.proofs.Settling.{zero-f, zero-t, zero-other}
+use Rattle.clash_laws.proofs.Settling.{zero-f, zero-t, zero-other}
+use Rattle.clash_laws.proofs.Readying.{holds-ready}
 use borrow.Author.Needs.{needs}
 use Rattle.clash.proofs.settle.zero_of.Statement.{statement}
 use Rattle.clash.proofs.settle.zero_of.Tie as tie
@@ -15,7 +18,7 @@ returns : tie.Need-returns
 returns c =
     let a = c .before .before .before .args in
     let T = table (a .operand .now) (a .modulus .now) (a .negated .now) (a .ranges .now) (a .low .now) (a .high .now) in
-    zero-f (relationAt T (a .j)) (c .holds-of .result) (search needs) (c .holds-of .ensures)
+    zero-f (relationAt T (a .j)) (c .holds-of .result) (search needs) (c .holds-of .ensures ∙ holds-ready T (a .j) 0 (c .before .before .before .pre) (omega arith))
 
 holds-of-requires-2 : tie.Need-holds-of-requires-2
 holds-of-requires-2 c κs = search needs
@@ -24,7 +27,7 @@ returns-2 : tie.Need-returns-2
 returns-2 c =
     let a = c .before .before .before .before .args in
     let T = table (a .operand .now) (a .modulus .now) (a .negated .now) (a .ranges .now) (a .low .now) (a .high .now) in
-    zero-t (relationAt T (a .j)) (c .holds-of2 .result) (search needs) (c .holds-of2 .ensures)
+    zero-t (relationAt T (a .j)) (c .holds-of2 .result) (search needs) (c .holds-of2 .ensures ∙ holds-ready T (a .j) 0 (c .before .before .before .before .pre) (omega arith))
 
 returns-3 : tie.Need-returns-3
 returns-3 c =

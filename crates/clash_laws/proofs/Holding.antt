@@ -1,0 +1,38 @@
+-- The check of a pack is that of its rules by places.
+use mathlib.Core.Path.{_≡_, refl, sym, ap, ap₂, _∙_}
+use mathlib.Core.List.{List}
+use Prim.Native.Nat.{ℕ, zero, suc, _+_, _-_, min}
+use native.Mathlib.Nat.{sub-zero}
+use Rattle.rules.specs.Syntax.{Relation, Rule}
+use Rattle.rules.specs.Held.{heldRules}
+use Rattle.rules.specs.Stretch.{stretch, tableOf, ruleAt}
+use Rattle.rules.specs.declared.Pack.{Pack}
+use Rattle.rules.proofs.Stretches.{Sized, held-rules}
+use Rattle.clash_laws.specs.Check.{named, against, firstPair, checkOf}
+use Rattle.clash_laws.specs.Fast.{fastRank, bothOf, fastClash}
+use Rattle.clash_laws.specs.Read.{bareRule}
+use Rattle.clash_laws.specs.declared.Checked.{Checked}
+use Rattle.clash_laws.proofs.Joining.{check-fast}
+
+-- ---- keywords do not matter to the search
+
+module _ (g h : ℕ → Rule) (same : (j : ℕ) → g j .clauses ≡ h j .clauses) where
+  clash-same : (i j : ℕ) → fastClash (g i) (g j) ≡ fastClash (h i) (h j)
+  clash-same i j = ap₂ (λ (a b : List (List Relation)). fastRank (bothOf a b)) (same i) (same j)
+
+  against-same : (p q i k n : ℕ) (r s : Checked) → r ≡ s → against fastClash p q (g i) (stretch g k n) r ≡ against fastClash p q (h i) (stretch h k n) s
+  unfolding against stretch
+  against-same p q i k zero r s e = e
+  against-same p q i k (suc n) r s e = ap₂ (named p q) (clash-same i k) (against-same p (suc q) i (suc k) n r s e)
+
+  pub first-same : (p k n : ℕ) → firstPair fastClash p (stretch g k n) ≡ firstPair fastClash p (stretch h k n)
+  unfolding firstPair stretch
+  first-same p k zero = refl
+  first-same p k (suc n) = against-same p (suc p) k (suc k) n _ _ (first-same (suc p) (suc k) n)
+
+-- The check of a pack is that of its rules by places.
+pub held-is : (p : Pack) (n : ℕ) (r : Checked) → Sized p → n ≡ min (p .count) 6 → r ≡ firstPair fastClash (0 + 1) (stretch (bareRule (tableOf p) (p .relations) (p .clauses)) 0 (n - 0)) → r ≡ checkOf (heldRules p)
+held-is p n r f e h =
+    h ∙ ap (λ (m : ℕ). firstPair fastClash 1 (stretch (bareRule (tableOf p) (p .relations) (p .clauses)) 0 m)) (sub-zero n ∙ e)
+    ∙ first-same (bareRule (tableOf p) (p .relations) (p .clauses)) (ruleAt p) (λ j. refl) 1 0 (min (p .count) 6)
+    ∙ sym (check-fast (heldRules p) ∙ ap (firstPair fastClash 1) (held-rules p f))

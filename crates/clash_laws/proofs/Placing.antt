@@ -1,0 +1,176 @@
+-- What the code of v and f works out: the least v in turn, and the least v and f as one number.
+use mathlib.Core.Path.{_≡_, refl, sym, ap, ap₂, subst, _∙_}
+use mathlib.Core.Bool.{Bool, true, false}
+use mathlib.Core.List.{List}
+use mathlib.Core.Logic.{_⊎_, ⊎-elim}
+use Prim.Native.Nat.{ℕ, zero, suc, _+_, _-_, _*_, _^_, _≤_, _<_, min}
+use native.Mathlib.Omega.{arith}
+use native.Mathlib.Nat.{pow-succ', mul-le-mul-right}
+use native.Mathlib.Numerals.{add-one}
+use lib.Pow.{pow-add}
+use lib.Dec.{ltb, leb}
+use borrow.Author.Tests.{le-leb, lt-leb}
+use Rattle.decimal.specs.Choice.{if_then_else_, both}
+use Rattle.decimal.proofs.Choices.{not-both}
+use Rattle.decimal.proofs.Values.{power-mono}
+use Rattle.number.specs.Limits.{maxExponent, maxPlaces}
+use Rattle.rules.specs.Syntax.{Relation}
+use Rattle.plural.specs.Meaning.{all}
+use Rattle.least.specs.Seek.{Least, seek}
+use Rattle.least.proofs.Seeking.{split, least-one, seek-least}
+use Rattle.clash_laws.specs.Fast.{queryT, passes, search, settledE, settledF, exponentOf, fractions, wholeCode, tailOf, tailPlaces, tailCode, partCode, fractionCode}
+use Rattle.clash_laws.specs.Read.{cap}
+use Rattle.clash_laws.specs.Hop.{Room}
+use Rattle.clash_laws.proofs.Leaping.{both-held, search-least}
+
+-- ---- powers
+
+pub power-more : (p i : ℕ) → p ≡ 10 ^ i → 10 * p ≡ 10 ^ (i + 1)
+power-more p i e = rw (add-one i, pow-succ' 10 i, e)
+
+pub power-room : (p i : ℕ) → p ≡ 10 ^ i → i < 18 → 10 * p ≤ 10 ^ 18
+power-room p i e h = subst (λ (x : ℕ). x ≤ 10 ^ 18) (sym (power-more p i e)) (power-mono {j = 18} (omega arith))
+
+-- ---- a test in turn
+
+module _ (P : ℕ → Bool) (n lo : ℕ) where
+  -- none before e passes
+  abbrev pub Before : ℕ → Type 0
+  Before e = (lo ≤ e) × ((j : ℕ) → lo ≤ j → j < e → P j ≡ false)
+
+  pub before-start : (e : ℕ) → e ≡ lo → Before e
+  before-start e h = (omega arith, λ j a b. absurd (omega arith))
+
+  pub before-more : (e : ℕ) (b : Bool) → Before e → b ≡ P e → b ≡ false → Before (e + 1)
+  before-more e b h g f =
+      (omega (arith, h .0), λ j u v. ⊎-elim (h .1 j u) (λ k. subst (λ (x : ℕ). P x ≡ false) (let z : e ≡ j = omega arith in z) (sym g ∙ f)) (split j e))
+
+  pub seek-at : (e : ℕ) (b : Bool) → Before e → e < lo + n → b ≡ P e → b ≡ true → e ≡ seek P n lo
+  seek-at e b h l g f = least-one (record { low = h .0; high = omega arith; none = h .1; hit = λ _. sym g ∙ f }) (seek-least P n lo)
+
+  pub seek-none : (e : ℕ) → Before e → e ≡ lo + n → e ≡ seek P n lo
+  seek-none e h g = least-one (record { low = h .0; high = omega arith; none = h .1; hit = λ k. absurd (omega arith) }) (seek-least P n lo)
+
+pub both-no : (x y a : Bool) → a ≡ x → a ≡ false → false ≡ both x y
+both-no x y a e f = sym (ap (λ (z : Bool). both z y) (sym e ∙ f))
+
+pub both-yes : (x y a : Bool) {b : Bool} → a ≡ x → a ≡ true → b ≡ y → b ≡ both x y
+both-yes x y a e f g = g ∙ sym (ap (λ (z : Bool). both z y) (sym e ∙ f))
+
+-- ---- f is 0
+
+module _ (c : List Relation) where
+  pub whole-none : (b : Bool) → b ≡ all (λ (r : Relation). passes (queryT 0) r 0) c → b ≡ false → fractions ≡ wholeCode c
+  unfolding wholeCode
+  whole-none b e f = sym (ap (λ (x : Bool). elim x [ true ↦ seek (λ v. all (settledF v 0) c) (suc maxPlaces) 0 * 10 ^ maxPlaces | false ↦ fractions ]) (sym e ∙ f))
+
+  pub whole-some : (b : Bool) (v : ℕ) → b ≡ all (λ (r : Relation). passes (queryT 0) r 0) c → b ≡ true → v ≡ seek (λ v. all (settledF v 0) c) (suc maxPlaces) 0 → v * 10 ^ maxPlaces ≡ wholeCode c
+  unfolding wholeCode
+  whole-some b v e f g =
+      ap (λ (x : ℕ). x * 10 ^ maxPlaces) g
+      ∙ sym (ap (λ (x : Bool). elim x [ true ↦ seek (λ v. all (settledF v 0) c) (suc maxPlaces) 0 * 10 ^ maxPlaces | false ↦ fractions ]) (sym e ∙ f))
+
+-- ---- f ends in k zeros
+
+module _ (k : ℕ) (hk : k < maxPlaces) (c : List Relation) where
+  abbrev Good : ℕ → ℕ → Bool
+  Good t v = both (all (settledF v (v - k)) c) (ltb t (10 ^ (v - k)))
+
+  sought : (t : ℕ) → Least (λ v. both (all (settledF v (v - k)) c) (ltb t (10 ^ (v - k)))) (suc k) (suc k + (maxPlaces - k)) (tailPlaces k t c)
+  unfolding tailPlaces
+  sought t = seek-least (λ v. both (all (settledF v (v - k)) c) (ltb t (10 ^ (v - k)))) (maxPlaces - k) (suc k)
+
+  -- no v is settled: then none has room
+  pub tail-unsettled : (v : ℕ) → v ≡ seek (λ v. all (settledF v (v - k)) c) (maxPlaces - k) (suc k) → maxPlaces < v → fractions ≡ tailCode k c
+  unfolding tailCode
+  tail-unsettled v e h =
+      let l = seek-least (λ v. all (settledF v (v - k)) c) (maxPlaces - k) (suc k) in
+      let g : maxPlaces < tailPlaces k (tailOf k c) c =
+      ⊎-elim (λ z. z)
+      (λ z. not-both (both-held _ _ (sought (tailOf k c) .hit (omega arith)) .0) (l .none (tailPlaces k (tailOf k c) c) (sought (tailOf k c) .low) (omega arith)))
+      (split maxPlaces (tailPlaces k (tailOf k c) c)) in
+      rw (lt-leb (tailPlaces k (tailOf k c) c) maxPlaces g)
+
+  pub tail-none : (t v : ℕ) → t ≡ tailOf k c → v ≡ tailPlaces k t c → maxPlaces < v → fractions ≡ tailCode k c
+  unfolding tailCode
+  tail-none t v e g h =
+      let z : v ≡ tailPlaces k (tailOf k c) c = g ∙ ap (λ (x : ℕ). tailPlaces k x c) e in
+      rw (lt-leb (tailPlaces k (tailOf k c) c) maxPlaces (omega arith))
+
+  pub tail-some : (t v p : ℕ) → t ≡ tailOf k c → v ≡ tailPlaces k t c → v ≤ maxPlaces → p ≡ 10 ^ k → v * 10 ^ maxPlaces + t * p ≡ tailCode k c
+  unfolding tailCode
+  tail-some t v p e g h q =
+      let z : v ≡ tailPlaces k (tailOf k c) c = g ∙ ap (λ (x : ℕ). tailPlaces k x c) e in
+      rw (le-leb (tailPlaces k (tailOf k c) c) maxPlaces (omega arith)) (ap₂ (λ (x y : ℕ). x * 10 ^ maxPlaces + y) z (ap₂ _*_ e q))
+
+  -- t and its zeros fit
+  pub tail-room : (t p : ℕ) → t ≡ tailOf k c → p ≡ 10 ^ k → t * p ≤ 10 ^ maxPlaces
+  unfolding tailOf
+  tail-room t p e q =
+      let l = search-least (queryT k) c 0 (10 ^ (maxPlaces - k)) (omega arith) in
+      let m : t * 10 ^ k ≤ 10 ^ (maxPlaces - k) * 10 ^ k = mul-le-mul-right (10 ^ k) (omega (arith, l .high)) in
+      let s : 10 ^ (maxPlaces - k) * 10 ^ k ≡ 10 ^ maxPlaces = sym (pow-add 10 (maxPlaces - k) k) ∙ ap (λ (x : ℕ). 10 ^ x) (let z : maxPlaces - k + k ≡ maxPlaces = omega arith in z) in
+      subst (λ (x : ℕ). t * x ≤ 10 ^ maxPlaces) (sym q) (omega arith)
+
+  -- its places are more than its zeros
+  pub tail-ge : suc k * 10 ^ maxPlaces ≤ tailCode k c
+  unfolding tailCode
+  tail-ge = go (leb (tailPlaces k (tailOf k c) c) maxPlaces) (mul-le-mul-right (10 ^ maxPlaces) (sought (tailOf k c) .low))
+    where
+      go : (b : Bool) → suc k * 10 ^ maxPlaces ≤ tailPlaces k (tailOf k c) c * 10 ^ maxPlaces
+          → suc k * 10 ^ maxPlaces ≤ (if b then tailPlaces k (tailOf k c) c * 10 ^ maxPlaces + tailOf k c * 10 ^ k else fractions)
+      go true h = omega arith
+      go false h = omega arith
+
+-- ---- a search for t
+
+pub tail-is : (k p e r : ℕ) (c : List Relation) → p ≡ 10 ^ k → e ≡ 10 ^ (maxPlaces - k) → r ≡ search (record { n = 0; i = 0; f = p; t = 1; odd = true }) c 0 e → r ≡ tailOf k c
+unfolding tailOf
+tail-is k p e r c g f h = h ∙ ap₂ (λ (x y : ℕ). search (record { n = 0; i = 0; f = x; t = 1; odd = true }) c 0 y) g f
+
+-- ---- f is not 0
+
+module _ (c : List Relation) where
+  pub part-start : fractions ≡ partCode 0 c
+  unfolding partCode
+  part-start = refl
+
+  pub part-more : (best y z k : ℕ) → best ≡ partCode k c → y ≡ tailCode k c → z ≡ min best y → z ≡ partCode (k + 1) c
+  unfolding partCode
+  part-more best y z k e f g = rw (add-one k) (g ∙ ap₂ min e f)
+
+  -- nothing with more zeros comes before
+  stays : (n k : ℕ) → k + n ≤ maxPlaces → partCode k c ≤ suc k * 10 ^ maxPlaces → partCode (k + n) c ≡ partCode k c
+  unfolding partCode
+  stays zero k h l = ap (λ (x : ℕ). partCode x c) (let z : k + 0 ≡ k = omega arith in z)
+  stays (suc n) k h l =
+      let i = stays n k (omega arith) l in
+      let g = tail-ge (k + n) (omega arith) c in
+      let m : suc k * 10 ^ maxPlaces ≤ suc (k + n) * 10 ^ maxPlaces = mul-le-mul-right (10 ^ maxPlaces) (omega arith) in
+      ap (λ (x : ℕ). partCode x c) (let z : k + suc n ≡ suc (k + n) = omega arith in z) ∙ (let z : min (partCode (k + n) c) (tailCode (k + n) c) ≡ partCode k c = omega arith in z)
+
+  pub part-stop : (best k : ℕ) → best ≡ partCode k c → k < maxPlaces → best ≤ (k + 1) * 10 ^ maxPlaces → best ≡ partCode maxPlaces c
+  part-stop best k e h l =
+      e ∙ sym (ap (λ (x : ℕ). partCode x c) (let z : maxPlaces ≡ k + (maxPlaces - k) = omega arith in z)
+      ∙ stays (maxPlaces - k) k (omega arith) (subst (λ (x : ℕ). x ≤ suc k * 10 ^ maxPlaces) e (subst (λ (x : ℕ). best ≤ x * 10 ^ maxPlaces) (add-one k) l)))
+
+  pub part-end : (best k : ℕ) → best ≡ partCode k c → k ≡ maxPlaces → best ≡ partCode maxPlaces c
+  part-end best k e h = e ∙ ap (λ (x : ℕ). partCode x c) h
+
+  pub code-whole : (w : Bool) (r : ℕ) → w ≡ true → r ≡ wholeCode c → r ≡ fractionCode w c
+  unfolding fractionCode
+  code-whole w r e h = rw e h
+
+  pub code-part : (w : Bool) (r : ℕ) → w ≡ false → r ≡ partCode maxPlaces c → r ≡ fractionCode w c
+  unfolding fractionCode
+  code-part w r e h = rw e h
+
+-- ---- the names of what is sought
+
+pub exponent-is : (r : ℕ) (c : List Relation) → r ≡ seek (λ e. all (settledE e) c) (suc maxExponent) 0 → r ≡ exponentOf c
+unfolding exponentOf
+exponent-is r c h = h
+
+pub places-is : (r k t : ℕ) (c : List Relation) → r ≡ seek (λ v. both (all (settledF v (v - k)) c) (ltb t (10 ^ (v - k)))) (maxPlaces - k) (suc k) → r ≡ tailPlaces k t c
+unfolding tailPlaces
+places-is r k t c h = h

@@ -1,0 +1,29 @@
+-- A search that has room, and the answer where it has none.
+use mathlib.Core.Bool.{Bool, true, false}
+use Prim.Native.Nat.{ℕ}
+use lib.Dec.{leb, ltb, eqb}
+use Rattle.decimal.specs.Choice.{if_then_else_}
+use Rattle.rules.specs.Stretch.{Table, relationAt}
+use Rattle.clash_laws.specs.Fast.{test, search}
+use Rattle.clash_laws.specs.Read.{cap, joinedIn}
+use Rattle.clash_laws.specs.declared.Query.{Query}
+use Rattle.clash_laws.specs.declared.Span.{Span}
+
+-- the relations are within the arrays, and the operands of a number up to hi within `cap`
+abbrev pub ready : Span → Query → ℕ → ℕ → Bool
+ready s q lo hi =
+    if ltb hi lo then false else
+    if ltb 320 (s .to) then false else
+    if ltb 320 (s .stop) then false else
+    if ltb 1 (q .n) then false else
+    if ltb 1 (q .i) then false else
+    if ltb 1 (q .t) then false else
+    if eqb (q .f) 0 then leb hi cap else
+    if ltb 1000000000 (q .f) then false else
+    leb hi 1000000000
+
+abbrev pub leastIn : Table → Span → Query → ℕ → ℕ → ℕ
+leastIn T s q lo hi = if ready s q lo hi then search q (joinedIn T s) lo hi else hi
+
+abbrev pub holdsIn : Table → ℕ → ℕ → Bool
+holdsIn T j x = if ltb j 320 then (if ltb cap x then false else test (relationAt T j) x) else false

@@ -1,0 +1,39 @@
+// What the pack check answers, and the laws of its search. There is no code here.
+//
+// specs/Check.antt is the definition, a search over all admitted numbers in document 01's order;
+// specs/Fast.antt is the search that is run, by leaps; proofs/FastIs.antt shows that they agree.
+// specs/Read.antt says what stretches of a pack's arrays hold.
+use answer::Pair;
+use answer::Witness;
+
+pub enum Checked {
+    Passes,
+    Clashes(Pair, Witness),
+}
+
+// A search for a number x: n, i, f and t are each x times their factor, or no part of the search where
+// it is 0. Where `odd` is true, x must not end in the digit 0.
+pub struct Query {
+    pub n: u64,
+    pub i: u64,
+    pub f: u64,
+    pub t: u64,
+    pub odd: bool,
+}
+
+// Two stretches of a pack's relations, which together are one clause: those at `from` to before `to`,
+// and those at `start` to before `stop`.
+pub struct Span {
+    pub from: usize,
+    pub to: usize,
+    pub start: usize,
+    pub stop: usize,
+}
+
+// The operands of a number that the search found; e is past the largest where it found none.
+pub struct Spot {
+    pub e: u64,
+    pub v: u64,
+    pub i: u64,
+    pub f: u64,
+}
