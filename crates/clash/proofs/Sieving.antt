@@ -1,5 +1,5 @@
 -- A number that passes has last digits that the sieve leaves; so where it leaves none, no number passes, and a search finds none.
-use mathlib.Core.Path.{_≡_, refl, sym, ap, subst, _∙_}
+use mathlib.Core.Path.{_≡_, refl, sym, ap, ap₂, subst, _∙_}
 use mathlib.Core.Bool.{Bool, true, false, not}
 use mathlib.Core.List.{List, [], _∷_}
 use mathlib.Core.Logic.{_⊎_, ⊎-elim}
@@ -128,11 +128,11 @@ module _ (q : Query) (m d : ℕ) (r : Relation) (s : ℕ) (e : s ≡ factor q (r
         unfolding fits
         allows-other h f l = fitting (rw (not-settled, f, ne-eqb (r .modulus % (m * s)) 0 (subst (λ (x : ℕ). x % (m * s) ≡ 0 → ⊥) g l)) h)
 
-        pub allows-reach : r .negated ≡ false → w % (m * s) ≡ 0 → b ≡ reachedAny w (m * s) (d * s) (r .ranges) → b ≡ allows q m d r
+        pub allows-reach : (rs : List Range) → r .negated ≡ false → w % (m * s) ≡ 0 → b ≡ reachedAny w (m * s) (d * s) rs → rs ≡ r .ranges → b ≡ allows q m d r
         unfolding fits
-        allows-reach f l h =
+        allows-reach rs f l h t =
             fitting (rw (not-settled, f, eq-eqb (r .modulus % (m * s)) 0 (subst (λ (x : ℕ). x % (m * s) ≡ 0) g l))
-            (h ∙ ap (λ (x : ℕ). reachedAny x (m * s) (d * s) (r .ranges)) g))
+            (h ∙ ap₂ (λ (x : ℕ) (y : List Range). reachedAny x (m * s) (d * s) y) g t))
 
 -- ---- a number that passes leaves its remainder
 
@@ -189,13 +189,14 @@ ends-of : (q : Query) (m x : ℕ) → m % 10 ≡ 0 → ends q (x % m) ≡ ends q
 unfolding ends
 ends-of q m x e = ap (λ (y : ℕ). if q .odd then not (eqb y 0) else true) (rem-rem x m 10 e)
 
-pub none-left : (q : Query) (m d : ℕ) (c : List Relation) → 0 < m → m % 10 ≡ 0 → mayPass q m d c ≡ false → (x : ℕ) → x % m ≡ d → passesAll q c x ≡ false
+-- so a number fails whose remainder is not left; b is what the test says of it
+pub none-left : (q : Query) (m d : ℕ) (c : List Relation) (b : Bool) → 0 < m → m % 10 ≡ 0 → b ≡ mayPass q m d c → b ≡ false → (x : ℕ) → x % m ≡ d → passesAll q c x ≡ false
 unfolding passesAll mayPass
-none-left q m d c pos ten h x e =
+none-left q m d c b pos ten f h x e =
     tested (both (ends q x) (all (λ (r : Relation). passes q r x) c))
     (λ k.
-    let b = both-held (ends q x) (all (λ (r : Relation). passes q r x) c) k in
-    not-both (and-true (ends-of q m x ten ∙ b .0) (all-allows q m x c pos (b .1))) (subst (λ (u : ℕ). both (ends q u) (all (allows q m u) c) ≡ false) (sym e) h))
+    let p = both-held (ends q x) (all (λ (r : Relation). passes q r x) c) k in
+    not-both (and-true (ends-of q m x ten ∙ p .0) (all-allows q m x c pos (p .1))) (subst (λ (u : ℕ). both (ends q u) (all (allows q m u) c) ≡ false) (sym e) (sym f ∙ h)))
     (λ k. k)
 
 pub search-none : (q : Query) (c : List Relation) (lo hi : ℕ) → lo ≤ hi → ((x : ℕ) → passesAll q c x ≡ false) → hi ≡ search q c lo hi

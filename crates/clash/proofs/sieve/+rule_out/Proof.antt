@@ -1,7 +1,6 @@
 -- `clash::sieve::rule_out` rules out the numbers of one remainder by one more digit. The measure is the steps.
 use native.Mathlib.Omega.{arith}
 use Prim.Native.Nat.{ℕ, _*_, _<_}
-use mathlib.Core.Path.{sym, _∙_}
 use borrow.Author.Tests.{not-true}
 use borrow.Author.Needs.{needs}
 use borrow.Fn.Kinds.{In}
@@ -69,10 +68,12 @@ rule-out-returns-4 t c =
     let a = s .args in
     let T = table (a .operand .now) (a .modulus .now) (a .negated .now) (a .ranges .now) (a .low .now) (a .high .now) in
     let P = passesAll (a .q) (joinedIn T (a .s)) in
-    let p = c .before .before .may-pass in
-    (λ h. out-more P (a .m) (a .d) (s .pre .1 .1)
-    (none-left (a .q) (10 * a .m) (a .d) (joinedIn T (a .s)) (omega (arith, s .pre .1 .1)) (omega arith) (sym (p .ensures) ∙ not-true _ (c .before .if4 .taken)))
-    (c .rule-out .ensures .0 h), omega (arith, c .rule-out .ensures .1))
+    let p = c .before .before .may-pass in (
+      λ h. out-more P (a .m) (a .d) (s .pre .1 .1)
+          (none-left (a .q) (10 * a .m) (a .d) (joinedIn T (a .s)) (p .result) (omega (arith, s .pre .1 .1)) (omega arith) (p .ensures) (not-true _ (c .before .if4 .taken)))
+          (c .rule-out .ensures .0 h),
+      omega (arith, c .rule-out .ensures .1),
+    )
 
 rule-out-returns-5 : (t : ℕ) → rule-out-lts.Need-returns-5 (may-pass-reads.Asked, may-pass-reads.Learnt, rule-out-below t, rule-out.Post) (rule-out-at t) rule-out.Post
 rule-out-returns-5 t c = (λ h. absurd (omega arith), omega arith)
@@ -104,10 +105,12 @@ rule-out-returns-7 t c =
     let a = s .args in
     let T = table (a .operand .now) (a .modulus .now) (a .negated .now) (a .ranges .now) (a .low .now) (a .high .now) in
     let P = passesAll (a .q) (joinedIn T (a .s)) in
-    let o = c .before .before .rule-out2 in
-    (λ h. out-more P (a .m) (a .d) (s .pre .1 .1)
-    (out-down P (a .m) (a .d) (s .pre .1 .1) (search needs) (o .ensures .0 (search needs)))
-    (c .rule-out3 .ensures .0 h), omega (arith, o .ensures .1, c .rule-out3 .ensures .1))
+    let o = c .before .before .rule-out2 in (
+      λ h. out-more P (a .m) (a .d) (s .pre .1 .1)
+          (out-down P (a .m) (a .d) (s .pre .1 .1) (search needs) (o .ensures .0 (search needs)))
+          (c .rule-out3 .ensures .0 h),
+      omega (arith, o .ensures .1, c .rule-out3 .ensures .1),
+    )
 
 pub +rule-out-spec : {M : Type 1} → statement M
 +rule-out-spec = close μ-rule-out λ t. rule-out-lts.spec (may-pass-reads.Asked, may-pass-reads.Learnt, rule-out-below t, rule-out.Post)

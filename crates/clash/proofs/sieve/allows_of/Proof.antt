@@ -1,10 +1,9 @@
 -- `clash::sieve::allows_of`: only a relation that is asked and has a modulus is tried, as a whole or by the remainders that its ranges reach.
 use native.Mathlib.Omega.{arith}
 use Prim.Native.Nat.{ℕ, _*_}
-use mathlib.Core.Path.{refl, ap₂, _∙_}
+use mathlib.Core.Path.{refl, ap₂}
 use lib.ListN.{getD}
 use Rattle.rules.specs.Stretch.{rangesIn, table, relationAt}
-use Rattle.clash.specs.Sieve.{reachedAny}
 use Rattle.clash.proofs.Hopping.{room-le, room-factor}
 use Rattle.clash.proofs.Sieving.{allows-unasked, allows-whole, allows-test, allows-not, allows-other, allows-reach, times-pos}
 use borrow.Author.Needs.{needs}
@@ -126,8 +125,8 @@ returns-6 c =
     let a = s .args in
     let T = table (a .operand .now) (a .modulus .now) (a .negated .now) (a .ranges .now) (a .low .now) (a .high .now) in
     let k = c .before .before .before .before .before .before .before .before .before .before .before .factor-of in
-    allows-reach (a .q) (a .m) (a .d) (relationAt T (a .j)) (k .result) (k .ensures) (c .before .before .before .before .before .before .before .before .wide .result) (c .before .before .before .before .before .before .before .before .wide .ensures) (search needs) (search needs) (c .reaches-any .result) (search needs) (c .before .before .before .before .if4 .left) (search needs)
-    (c .reaches-any .ensures ∙ ap₂ (λ (u v : ℕ). reachedAny (c .before .before .before .before .before .before .before .before .wide .result) (a .m * k .result) (a .d * k .result) (rangesIn (a .low .now) (a .high .now) u v)) (c .before .before .start-at .ensures) (c .before .stop-at .ensures))
+    allows-reach (a .q) (a .m) (a .d) (relationAt T (a .j)) (k .result) (k .ensures) (c .before .before .before .before .before .before .before .before .wide .result) (c .before .before .before .before .before .before .before .before .wide .ensures) (search needs) (search needs) (c .reaches-any .result) (search needs) (rangesIn (a .low .now) (a .high .now) (c .before .before .start-at .result) (c .before .stop-at .result)) (c .before .before .before .before .if4 .left) (search needs)
+    (c .reaches-any .ensures) (ap₂ (λ (u v : ℕ). rangesIn (a .low .now) (a .high .now) u v) (c .before .before .start-at .ensures) (c .before .stop-at .ensures))
 
 pub allows-of-spec : {M : Type 1} → statement M
 allows-of-spec =
