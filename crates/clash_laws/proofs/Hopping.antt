@@ -10,7 +10,7 @@ use lib.Dec.{eqb}
 use lib.ListN.{getD}
 use borrow.Author.Tests.{eq-eqb, ne-eqb}
 use Rattle.decimal.specs.Choice.{if_then_else_, both}
-use Rattle.rules.specs.Syntax.{Relation}
+use Rattle.rules.specs.Syntax.{Range, Relation}
 use Rattle.plural.specs.Meaning.{all}
 use Rattle.least.specs.Seek.{Leap}
 use Rattle.least.specs.Leap.{upwards}
@@ -32,13 +32,13 @@ pub start-some : (ends : List ℕ) (j k : ℕ) → (j ≡ 0 → ⊥) → k ≡ g
 start-some ends j k n e = rw (ne-eqb j 0 n) e
 
 -- by the sign
-pub leap-not : (r : Relation) (x y : ℕ) → r .negated ≡ true → y ≡ outOfAll (r .modulus) (r .ranges) x → y ≡ leapTest r x
+pub leap-not : (r : Relation) (x y : ℕ) (rs : List Range) → r .negated ≡ true → y ≡ outOfAll (r .modulus) rs x → rs ≡ r .ranges → y ≡ leapTest r x
 unfolding leapTest
-leap-not r x y e h = rw e h
+leap-not r x y rs e h t = rw e (h ∙ ap (λ (u : List Range). outOfAll (r .modulus) u x) t)
 
-pub leap-is : (r : Relation) (x y : ℕ) → r .negated ≡ false → y ≡ intoAny (r .modulus) (r .ranges) x → y ≡ leapTest r x
+pub leap-is : (r : Relation) (x y : ℕ) (rs : List Range) → r .negated ≡ false → y ≡ intoAny (r .modulus) rs x → rs ≡ r .ranges → y ≡ leapTest r x
 unfolding leapTest
-leap-is r x y e h = rw e h
+leap-is r x y rs e h t = rw e (h ∙ ap (λ (u : List Range). intoAny (r .modulus) u x) t)
 
 -- a leap stays exactly where the test passes
 pub stays : (r : Relation) (x y : ℕ) → y ≡ leapTest r x → eqb y x ≡ test r x

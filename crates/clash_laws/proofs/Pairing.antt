@@ -1,5 +1,5 @@
 -- What the code of two rules works out: the least over the joined clauses.
-use mathlib.Core.Path.{_≡_, ap₂, _∙_}
+use mathlib.Core.Path.{_≡_, sym, ap₂, _∙_}
 use mathlib.Core.List.{List, [], _∷_, _++_}
 use Prim.Native.Nat.{ℕ, _+_, _-_, _≤_, _<_, min}
 use native.Mathlib.Omega.{arith}
@@ -34,15 +34,22 @@ module _ (T : Table) (R : List ℕ) where
     pub both-start : (x from : ℕ) → x ≡ ranks → min x (fastRank (bothOf (clausesIn T R from to) (clausesIn T R start stop))) ≡ fastRank (bothOf (clausesIn T R from to) (clausesIn T R start stop))
     both-start x from e = omega (arith, fast-least (bothOf (clausesIn T R from to) (clausesIn T R start stop)) .high)
 
-    pub both-more : (x z k : ℕ) → k < to → z ≡ min x (fastRank (withEach (clauseAt T R k) (clausesIn T R start stop)))
+    both-one : (x z k : ℕ) → k < to → z ≡ min x (fastRank (withEach (clauseAt T R k) (clausesIn T R start stop)))
         → min x (fastRank (bothOf (clausesIn T R k to) (clausesIn T R start stop))) ≡ min z (fastRank (bothOf (clausesIn T R (k + 1) to) (clausesIn T R start stop)))
     unfolding bothOf
-    both-more x z k h e =
+    both-one x z k h e =
         rw (stretch-cons (clauseAt T R) k to h, fast-append (withEach (clauseAt T R k) (clausesIn T R start stop)) (bothOf (clausesIn T R (k + 1) to) (clausesIn T R start stop)), e) (omega arith)
 
-    pub both-end : (x k : ℕ) → to ≤ k → x ≤ ranks → min x (fastRank (bothOf (clausesIn T R k to) (clausesIn T R start stop))) ≡ x
+    pub both-more : (x z k y : ℕ) → k < to → z ≡ min x (fastRank (withEach (clauseAt T R k) (clausesIn T R start stop)))
+        → min x (fastRank (bothOf (clausesIn T R k to) (clausesIn T R start stop))) ≡ y → min z (fastRank (bothOf (clausesIn T R (k + 1) to) (clausesIn T R start stop))) ≡ y
+    both-more x z k y h e g = sym (both-one x z k h e) ∙ g
+
+    both-none : (x k : ℕ) → to ≤ k → x ≤ ranks → x ≡ min x (fastRank (bothOf (clausesIn T R k to) (clausesIn T R start stop)))
     unfolding bothOf fastRank
-    both-end x k h b = rw (stretch-nil (clauseAt T R) k to h) (omega arith)
+    both-none x k h b = rw (stretch-nil (clauseAt T R) k to h) (omega arith)
+
+    pub both-end : (x k y : ℕ) → to ≤ k → x ≤ ranks → min x (fastRank (bothOf (clausesIn T R k to) (clausesIn T R start stop))) ≡ y → x ≡ y
+    both-end x k y h b g = both-none x k h b ∙ g
 
   pub joined-is : (x a b c d k l : ℕ) → a ≡ startAt R k → b ≡ min (getD R k 0) 320 → c ≡ startAt R l → d ≡ min (getD R l 0) 320
       → x ≡ clauseRank (relationsIn T a b ++ relationsIn T c d) → x ≡ clauseRank (clauseAt T R k ++ clauseAt T R l)

@@ -1,15 +1,15 @@
 -- A number that passes has last digits that the sieve leaves; so where it leaves none, no number passes, and a search finds none.
-use mathlib.Core.Path.{_≡_, refl, sym, ap, subst, _∙_}
+use mathlib.Core.Path.{_≡_, refl, sym, ap, ap₂, subst, _∙_}
 use mathlib.Core.Bool.{Bool, true, false, not}
 use mathlib.Core.List.{List, [], _∷_}
 use mathlib.Core.Logic.{_⊎_, ⊎-elim}
 use Prim.Native.Nat.{ℕ, suc, _+_, _-_, _*_, _/_, _%_, _≤_, _<_, min}
 use native.Mathlib.Omega.{arith}
 use native.Mathlib.Nat.{mul-assoc, add-mul-mod-self-right, add-mod-right, div-add-mod', mod-lt, mod-le, mod-self, mod-add-mod, mod-eq-of-lt, mul-le-mul-right}
-use lib.Dec.{eqb, leb}
-use borrow.Author.Tests.{eqb-true, eqb-false, eq-eqb, ne-eqb, le-leb, leb-true, not-true}
+use lib.Dec.{eqb, leb, ltb}
+use borrow.Author.Tests.{eqb-true, eqb-false, eq-eqb, ne-eqb, le-leb, leb-true, lt-ltb, le-ltb, not-true}
 use Rattle.decimal.specs.Choice.{if_then_else_, both, either}
-use Rattle.decimal.proofs.Choices.{tested, not-both}
+use Rattle.decimal.proofs.Choices.{choice, tested, not-both}
 use Rattle.rules.specs.Syntax.{Range, Relation}
 use Rattle.plural.specs.Meaning.{any, all, inRange}
 use Rattle.least.proofs.Seeking.{split, and-true, and-false-left, or-true-left, or-true-right, least-none, least-one}
@@ -56,6 +56,17 @@ reached-by m z a b y pos e l h = le-leb (a + (z + (m - a % m)) % m) b (omega (ar
     far =
         sym (mod-add-mod z m (m - a % m)) ∙ ap (λ (u : ℕ). (u + (m - a % m)) % m) (sym e) ∙ mod-add-mod y m (m - a % m)
         ∙ ap (λ (u : ℕ). u % m) (on (a / m) (a % m) (div-add-mod' a m) (mod-lt a pos)) ∙ add-mul-mod-self-right (y - a) (suc (a / m)) m
+
+-- what the code works out, in either case
+pub reach-near : (m z a b u : ℕ) (c : Bool) → z < m → u ≡ z + (m - a % m) → u < m → c ≡ leb (a + u) b → c ≡ reached m z a b
+unfolding reached
+reach-near m z a b u c h e l g = g ∙ ap (λ (t : ℕ). leb (a + t) b) (sym (mod-eq-of-lt l) ∙ ap (λ (t : ℕ). t % m) e)
+
+pub reach-round : (m z a b u : ℕ) (c : Bool) → z < m → u ≡ z + (m - a % m) → m ≤ u → c ≡ leb (a + (u - m)) b → c ≡ reached m z a b
+unfolding reached
+reach-round m z a b u c h e l g =
+    g ∙ ap (λ (t : ℕ). leb (a + t) b)
+    (sym (mod-eq-of-lt {n = u - m} {m = m} (omega (arith, e))) ∙ sym (add-mod-right (u - m) m) ∙ ap (λ (t : ℕ). t % m) (let k : u - m + m ≡ z + (m - a % m) = omega (arith, e) in k))
 
 any-reached : (w m z y : ℕ) → 0 < m → y < w → y % m ≡ z % m → (rs : List Range) → any (inRange y) rs ≡ true → reachedAny w m z rs ≡ true
 unfolding reachedAny
@@ -112,27 +123,39 @@ module _ (q : Query) (m d : ℕ) (r : Relation) (s : ℕ) (e : s ≡ factor q (r
           ∙ sym (ap (λ (c : Bool). if c then fits (factor q (r .operand)) m d r else true)
           (and-true (ap not (ne-eqb (factor q (r .operand)) 0 (λ y. n (e ∙ y)))) (ap not (ne-eqb (r .modulus) 0 (λ y. z (g ∙ y))))))
 
-      pub allows-test : m * s % w ≡ 0 → b ≡ test r (d * s) → b ≡ allows q m d r
-      unfolding fits
-      allows-test k h = fitting (rw (eq-eqb (m * s % r .modulus) 0 (subst (λ (x : ℕ). m * s % x ≡ 0) g k)) h)
+      module _ (y : Bool) (o : y ≡ both (ltb 10 m) (ltb w (m * s))) where
+        asked-before : y ≡ both (ltb 10 m) (ltb (r .modulus) (m * s))
+        asked-before = o ∙ ap (λ (x : ℕ). both (ltb 10 m) (ltb x (m * s))) g
 
-      module _ (k : m * s % w ≡ 0 → ⊥) where
-        not-settled : eqb (m * s % r .modulus) 0 ≡ false
-        not-settled = ne-eqb (m * s % r .modulus) 0 (subst (λ (x : ℕ). m * s % x ≡ 0 → ⊥) g k)
-
-        pub allows-not : b ≡ true → r .negated ≡ true → b ≡ allows q m d r
+        pub allows-before : b ≡ true → y ≡ true → b ≡ allows q m d r
         unfolding fits
-        allows-not h f = fitting (rw (not-settled, f) h)
+        allows-before h t = fitting (rw (sym asked-before ∙ t) h)
 
-        pub allows-other : b ≡ true → r .negated ≡ false → (w % (m * s) ≡ 0 → ⊥) → b ≡ allows q m d r
-        unfolding fits
-        allows-other h f l = fitting (rw (not-settled, f, ne-eqb (r .modulus % (m * s)) 0 (subst (λ (x : ℕ). x % (m * s) ≡ 0 → ⊥) g l)) h)
+        module _ (u : y ≡ false) where
+          asked-now : both (ltb 10 m) (ltb (r .modulus) (m * s)) ≡ false
+          asked-now = sym asked-before ∙ u
 
-        pub allows-reach : r .negated ≡ false → w % (m * s) ≡ 0 → b ≡ reachedAny w (m * s) (d * s) (r .ranges) → b ≡ allows q m d r
-        unfolding fits
-        allows-reach f l h =
-            fitting (rw (not-settled, f, eq-eqb (r .modulus % (m * s)) 0 (subst (λ (x : ℕ). x % (m * s) ≡ 0) g l))
-            (h ∙ ap (λ (x : ℕ). reachedAny x (m * s) (d * s) (r .ranges)) g))
+          pub allows-test : m * s % w ≡ 0 → b ≡ test r (d * s) → b ≡ allows q m d r
+          unfolding fits
+          allows-test k h = fitting (rw (asked-now, eq-eqb (m * s % r .modulus) 0 (subst (λ (x : ℕ). m * s % x ≡ 0) g k)) h)
+
+          module _ (k : m * s % w ≡ 0 → ⊥) where
+            not-settled : eqb (m * s % r .modulus) 0 ≡ false
+            not-settled = ne-eqb (m * s % r .modulus) 0 (subst (λ (x : ℕ). m * s % x ≡ 0 → ⊥) g k)
+
+            pub allows-not : b ≡ true → r .negated ≡ true → b ≡ allows q m d r
+            unfolding fits
+            allows-not h f = fitting (rw (asked-now, not-settled, f) h)
+
+            pub allows-other : b ≡ true → r .negated ≡ false → (w % (m * s) ≡ 0 → ⊥) → b ≡ allows q m d r
+            unfolding fits
+            allows-other h f l = fitting (rw (asked-now, not-settled, f, ne-eqb (r .modulus % (m * s)) 0 (subst (λ (x : ℕ). x % (m * s) ≡ 0 → ⊥) g l)) h)
+
+            pub allows-reach : (rs : List Range) → r .negated ≡ false → w % (m * s) ≡ 0 → b ≡ reachedAny w (m * s) (d * s) rs → rs ≡ r .ranges → b ≡ allows q m d r
+            unfolding fits
+            allows-reach rs f l h t =
+                fitting (rw (asked-now, not-settled, f, eq-eqb (r .modulus % (m * s)) 0 (subst (λ (x : ℕ). x % (m * s) ≡ 0) g l))
+                (h ∙ ap₂ (λ (x : ℕ) (y : List Range). reachedAny x (m * s) (d * s) y) g t))
 
 -- ---- a number that passes leaves its remainder
 
@@ -147,7 +170,8 @@ test-is r x e = rw e
 fits-of : (s m x : ℕ) (r : Relation) → 0 < m * s → 0 < r .modulus → test r (x * s) ≡ true → fits s m (x % m) r ≡ true
 unfolding fits
 fits-of s m x r pos some h =
-    go (eqb (m * s % r .modulus) 0) (r .negated) (eqb (r .modulus % (m * s)) 0) refl refl refl
+    choice (λ (b : Bool). b ≡ true) (both (ltb 10 m) (ltb (r .modulus) (m * s))) (λ _. refl)
+    (λ _. go (eqb (m * s % r .modulus) 0) (r .negated) (eqb (r .modulus % (m * s)) 0) refl refl refl)
   where
     w : ℕ
     w = r .modulus
@@ -189,13 +213,14 @@ ends-of : (q : Query) (m x : ℕ) → m % 10 ≡ 0 → ends q (x % m) ≡ ends q
 unfolding ends
 ends-of q m x e = ap (λ (y : ℕ). if q .odd then not (eqb y 0) else true) (rem-rem x m 10 e)
 
-pub none-left : (q : Query) (m d : ℕ) (c : List Relation) → 0 < m → m % 10 ≡ 0 → mayPass q m d c ≡ false → (x : ℕ) → x % m ≡ d → passesAll q c x ≡ false
+-- so a number fails whose remainder is not left; b is what the test says of it
+pub none-left : (q : Query) (m d : ℕ) (c : List Relation) (b : Bool) → 0 < m → m % 10 ≡ 0 → b ≡ mayPass q m d c → b ≡ false → (x : ℕ) → x % m ≡ d → passesAll q c x ≡ false
 unfolding passesAll mayPass
-none-left q m d c pos ten h x e =
+none-left q m d c b pos ten f h x e =
     tested (both (ends q x) (all (λ (r : Relation). passes q r x) c))
     (λ k.
-    let b = both-held (ends q x) (all (λ (r : Relation). passes q r x) c) k in
-    not-both (and-true (ends-of q m x ten ∙ b .0) (all-allows q m x c pos (b .1))) (subst (λ (u : ℕ). both (ends q u) (all (allows q m u) c) ≡ false) (sym e) h))
+    let p = both-held (ends q x) (all (λ (r : Relation). passes q r x) c) k in
+    not-both (and-true (ends-of q m x ten ∙ p .0) (all-allows q m x c pos (p .1))) (subst (λ (u : ℕ). both (ends q u) (all (allows q m u) c) ≡ false) (sym e) (sym f ∙ h)))
     (λ k. k)
 
 pub search-none : (q : Query) (c : List Relation) (lo hi : ℕ) → lo ≤ hi → ((x : ℕ) → passesAll q c x ≡ false) → hi ≡ search q c lo hi
@@ -255,7 +280,21 @@ module _ (P : ℕ → Bool) where
         let g : x % (10 * (10 * m)) % (10 * m) ≡ x % (10 * m) = rem-rem x (10 * (10 * m)) (10 * m) (ten-times (10 * m)) in
         o x (omega (arith, mod-le (x % (10 * (10 * m))) (10 * m))) (e ∙ sym (mod-eq-of-lt h))
 
+-- ---- what was settled before
+
+pub not-past : (m w n : ℕ) → m ≤ 10 → false ≡ both (ltb 10 m) (ltb w n)
+not-past m w n h = sym (and-false-left (ltb w n) (le-ltb 10 m h))
+
+pub is-past : (m w n : ℕ) → 10 < m → ltb w n ≡ both (ltb 10 m) (ltb w n)
+is-past m w n h = sym (ap (λ (x : Bool). both x (ltb w n)) (lt-ltb 10 m h))
+
 -- ---- room
+
+pub times-lt : (m d s : ℕ) → d < m → (s ≡ 0 → ⊥) → d * s < m * s
+times-lt m d s h n =
+    let k : suc d * s ≤ m * s = mul-le-mul-right s h in
+    let e : suc d * s ≡ d * s + s = omega arith in
+    ⊎-elim (λ z. absurd (n (omega arith))) (λ z. omega arith) (split s 1)
 
 pub times-pos : (m d s : ℕ) → d < m → (s ≡ 0 → ⊥) → 0 < m * s
 times-pos m d s h n =

@@ -2,7 +2,7 @@
 use mathlib.Core.Bool.{Bool, true, not}
 use mathlib.Core.List.{List}
 use Prim.Native.Nat.{ℕ, _+_, _-_, _*_, _%_, min}
-use lib.Dec.{leb, eqb}
+use lib.Dec.{leb, ltb, eqb}
 use Rattle.decimal.specs.Choice.{if_then_else_, both}
 use Rattle.rules.specs.Syntax.{Range, Relation}
 use Rattle.plural.specs.Meaning.{any, all}
@@ -17,9 +17,11 @@ unfoldable pub reachedAny : ℕ → ℕ → ℕ → List Range → Bool
 reachedAny w m z rs = any (λ (r : Range). reached m z (r .low) (min (r .high) (w - 1))) rs
 
 -- What a relation with a modulus can say of x if d is x's remainder by m, where its operand is x * s. The operand's remainder by m * s is d * s. That settles
--- the relation if the modulus divides m * s; if m * s divides the modulus, then `=` needs a remainder by the modulus that has it too.
+-- the relation if the modulus divides m * s; if m * s divides the modulus, then `=` needs a remainder by the modulus that has it too. A relation that
+-- the remainder by m / 10 settled is not asked again.
 unfoldable pub fits : ℕ → ℕ → ℕ → Relation → Bool
 fits s m d r =
+    if both (ltb 10 m) (ltb (r .modulus) (m * s)) then true else
     if eqb (m * s % r .modulus) 0 then test r (d * s) else
     if r .negated then true else
     if eqb (r .modulus % (m * s)) 0 then reachedAny (r .modulus) (m * s) (d * s) (r .ranges) else

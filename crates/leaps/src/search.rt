@@ -14,7 +14,8 @@ use crate::window;
 use clash_laws::Query;
 use clash_laws::Span;
 
-const FIRST_STEPS: u64 = 32;
+// The leaps of the first turn, and leaps past which a turn takes no more than four times as many.
+const FIRST_STEPS: u64 = 8;
 
 const MOST_STEPS: u64 = 1_000_000_000;
 
@@ -111,7 +112,8 @@ fn leap_on<'a>(
 }
 
 // The least number from lo on and below hi that passes, or hi: by leaps, and by remainders where some
-// leaps have not found it. Each turn takes more steps of both.
+// leaps have not found it. Each turn takes four times as many leaps, and as many remainders as the
+// leaps of the next one.
 pub fn least_number<'a>(
     operand: &'a [u8; 320],
     modulus: &'a [u32; 320],
@@ -151,22 +153,12 @@ pub fn least_number<'a>(
         if z == y {
             return y;
         }
-        if sieve::blocked(
-            operand,
-            modulus,
-            negated,
-            ranges,
-            low,
-            high,
-            s,
-            q,
-            hi,
-            steps,
-        ) {
+        let more = 4 * leap::lesser(steps, MOST_STEPS);
+        if sieve::blocked(operand, modulus, negated, ranges, low, high, s, q, hi, more) {
             return hi;
         }
         x = z;
-        steps = 2 * leap::lesser(steps, MOST_STEPS);
+        steps = more;
     }
     hi
 }

@@ -3,6 +3,8 @@ ghost use mathlib.Core.Path.{_≡_};
 ghost use mathlib.Core.Bool.{Bool, true, false};
 ghost use mathlib.Core.List.{List};
 ghost use Prim.Native.Nat.{ℕ, _*_, _%_, _≤_, _<_};
+ghost use lib.Dec.{ltb};
+ghost use Rattle.decimal.specs.Choice.{both};
 ghost use Rattle.plural.specs.Meaning.{all};
 ghost use Rattle.clash_laws.specs.Fast.{ends, passesAll};
 ghost use Rattle.clash_laws.specs.Sieve.{reached, reachedAny, allows, mayPass};
@@ -19,10 +21,14 @@ const LAST_POWER: u64 = 1_000_000;
 
 // Whether one of the numbers from a to b has the remainder of z by m.
 fn reaches(m: u64, z: u64, a: u32, b: u64) -> bool
-    requires { ⌜ (0 < m) × (m ≤ cap) × (z ≤ cap) ⌝ }
+    requires { ⌜ (z < m) × (m ≤ cap) ⌝ }
     ensures { λ r. ⌜ r ≡ reached m z a b ⌝ }
 {
-    (a as u64) + (z + (m - (a as u64) % m)) % m <= b
+    let up = z + (m - (a as u64) % m);
+    if up < m {
+        return (a as u64) + up <= b;
+    }
+    (a as u64) + (up - m) <= b
 }
 
 // Whether a remainder by w has it, in the ranges from place `from` to before `to`.
@@ -35,7 +41,7 @@ fn reaches_any<'a>(
     m: u64,
     z: u64,
 ) -> bool
-    requires { ⌜ (0 < w) × (0 < m) × (m ≤ cap) × (z ≤ cap) × (to ≤ 2048) ⌝ }
+    requires { ⌜ (0 < w) × (z < m) × (m ≤ cap) × (to ≤ 2048) ⌝ }
     ensures { λ r. ⌜ r ≡ reachedAny w m z (rangesIn (now (low .entry)) (now (high .entry)) from to) ⌝ }
 {
     let mut k = from;
@@ -47,6 +53,16 @@ fn reaches_any<'a>(
         k += 1;
     }
     false
+}
+
+// Whether the remainder by m / 10, a power of ten too, told all that the modulus w asks.
+fn settled_before(m: u64, n: u64, w: u64) -> bool
+    ensures { λ r. ⌜ r ≡ both (ltb 10 m) (ltb w n) ⌝ }
+{
+    if m <= 10 {
+        return false;
+    }
+    w < n
 }
 
 // Whether the relation j allows the remainder d by m.
@@ -74,6 +90,9 @@ fn allows_of<'a>(
         return true;
     }
     let n = m * s;
+    if settled_before(m, n, w) {
+        return true;
+    }
     if n % w == 0 {
         return relation::holds_of(operand, modulus, negated, ranges, low, high, j, d * s);
     }

@@ -1,7 +1,7 @@
 -- `clash::joined::both_spot` takes the earliest. Invariant: the best so far with that of the clauses left is that of all.
 use native.Mathlib.Omega.{arith}
 use Prim.Native.Nat.{_-_, min}
-use mathlib.Core.Path.{_≡_, sym, _∙_}
+use mathlib.Core.Path.{_≡_}
 use Rattle.clash_laws.specs.Fast.{fastRank, bothOf}
 use Rattle.rules.specs.Stretch.{table, clausesIn}
 use Rattle.clash_laws.specs.Spots.{spotRank, Proper}
@@ -40,14 +40,14 @@ loop-again c =
     let l = c .before .before in
     let a = l .before .before .args in
     let T = table (a .operand .now) (a .modulus .now) (a .negated .now) (a .ranges .now) (a .low .now) (a .high .now) in
-    (sym (both-more T (a .relations .now) (a .to) (a .start) (a .stop) (spotRank (l .loop .best)) (spotRank (c .with-each .result)) (l .loop .k) (search needs) (c .with-each .ensures .0)) ∙ l .loop .inv .0, c .with-each .ensures .1)
+    (both-more T (a .relations .now) (a .to) (a .start) (a .stop) (spotRank (l .loop .best)) (spotRank (c .with-each .result)) (l .loop .k) (fastRank (bothOf (clausesIn T (a .relations .now) (a .from) (a .to)) (clausesIn T (a .relations .now) (a .start) (a .stop)))) (search needs) (c .with-each .ensures .0) (l .loop .inv .0), c .with-each .ensures .1)
 
 returns : tie.Need-returns Inv-loop μ-loop
 returns c =
     let l = c .before in
     let a = l .before .before .args in
     let T = table (a .operand .now) (a .modulus .now) (a .negated .now) (a .ranges .now) (a .low .now) (a .high .now) in
-    (sym (both-end T (a .relations .now) (a .to) (a .start) (a .stop) (spotRank (l .loop .best)) (l .loop .k) (search needs) (l .loop .inv .1 .ranked)) ∙ l .loop .inv .0, l .loop .inv .1)
+    (both-end T (a .relations .now) (a .to) (a .start) (a .stop) (spotRank (l .loop .best)) (l .loop .k) (fastRank (bothOf (clausesIn T (a .relations .now) (a .from) (a .to)) (clausesIn T (a .relations .now) (a .start) (a .stop)))) (search needs) (l .loop .inv .1 .ranked) (l .loop .inv .0), l .loop .inv .1)
 
 pub both-spot-spec : {M : Type 1} → statement M
 both-spot-spec =

@@ -1,8 +1,6 @@
 -- `leaps::relation::leap_relation` leaps as the relation's sign says, over its ranges.
-use mathlib.Core.Path.{ap₂, _∙_}
+use mathlib.Core.Path.{ap₂}
 use Prim.Native.Nat.{ℕ}
-use lib.ListN.{getD}
-use Rattle.clash_laws.specs.Fast.{intoAny, outOfAll}
 use Rattle.rules.specs.Stretch.{table, relationAt, rangesIn}
 use Rattle.clash_laws.proofs.Hopping.{leap-not, leap-is}
 use borrow.Author.Needs.{needs}
@@ -31,8 +29,8 @@ returns : tie.Need-returns
 returns c =
     let a = c .before .before .before .before .before .before .args in
     let T = table (a .operand .now) (a .modulus .now) (a .negated .now) (a .ranges .now) (a .low .now) (a .high .now) in
-    leap-not (relationAt T (a .j)) (a .x) (c .out-of-all .result) (c .before .before .if1 .taken)
-    (c .out-of-all .ensures ∙ ap₂ (λ (u v : ℕ). outOfAll (getD (a .modulus .now) (a .j) 0) (rangesIn (a .low .now) (a .high .now) u v) (a .x)) (c .before .before .before .before .before .start-at .ensures) (c .before .before .before .before .stop-at .ensures))
+    leap-not (relationAt T (a .j)) (a .x) (c .out-of-all .result) (rangesIn (a .low .now) (a .high .now) (c .before .before .before .before .before .start-at .result) (c .before .before .before .before .stop-at .result)) (c .before .before .if1 .taken) (c .out-of-all .ensures)
+    (ap₂ (λ (u v : ℕ). rangesIn (a .low .now) (a .high .now) u v) (c .before .before .before .before .before .start-at .ensures) (c .before .before .before .before .stop-at .ensures))
 
 mul-into-any : tie.Need-mul-into-any
 mul-into-any c = search needs
@@ -47,8 +45,8 @@ returns-2 : tie.Need-returns-2
 returns-2 c =
     let a = c .before .before .before .before .before .before .args in
     let T = table (a .operand .now) (a .modulus .now) (a .negated .now) (a .ranges .now) (a .low .now) (a .high .now) in
-    leap-is (relationAt T (a .j)) (a .x) (c .into-any .result) (c .before .before .if1 .left)
-    (c .into-any .ensures ∙ ap₂ (λ (u v : ℕ). intoAny (getD (a .modulus .now) (a .j) 0) (rangesIn (a .low .now) (a .high .now) u v) (a .x)) (c .before .before .before .before .before .start-at .ensures) (c .before .before .before .before .stop-at .ensures))
+    leap-is (relationAt T (a .j)) (a .x) (c .into-any .result) (rangesIn (a .low .now) (a .high .now) (c .before .before .before .before .before .start-at .result) (c .before .before .before .before .stop-at .result)) (c .before .before .if1 .left) (c .into-any .ensures)
+    (ap₂ (λ (u v : ℕ). rangesIn (a .low .now) (a .high .now) u v) (c .before .before .before .before .before .start-at .ensures) (c .before .before .before .before .stop-at .ensures))
 
 pub leap-relation-spec : {M : Type 1} → statement M
 leap-relation-spec =

@@ -70,23 +70,23 @@ returns-2 c =
     let f = none-on P (a .lo) (l .loop .x) (g .result) (l .loop .inv .1) (g .ensures .1) in
     search-found (a .q) (joinedIn T (a .s)) (a .lo) (a .hi) (e .result) (g .result) (s .pre .0) (e .ensures) (omega (arith, l .loop .inv .0, g .ensures .0)) f (c .before .leap-all .result) (search needs) (c .before .leap-all .ensures) (search needs)
 
+lesser-requires : tie.Need-lesser-requires Inv-loop μ-loop
+lesser-requires c κs = search needs
+
+mul-more : tie.Need-mul-more Inv-loop μ-loop
+mul-more c = omega (arith, c .lesser .ensures)
+
 blocked-requires : tie.Need-blocked-requires Inv-loop μ-loop
 blocked-requires c κs =
-    let s = c .before .before .before .before .before .before .before in
+    let s = c .before .before .before .before .before .before .before .before in
     (s .pre .1, s .pre .2, s .pre .3)
 
 returns-3 : tie.Need-returns-3 Inv-loop μ-loop
 returns-3 c =
-    let s = c .before .before .before .before .before .before .before .before .before in
+    let s = c .before .before .before .before .before .before .before .before .before .before in
     let a = s .args in
     let T = table (a .operand .now) (a .modulus .now) (a .negated .now) (a .ranges .now) (a .low .now) (a .high .now) in
     search-none (a .q) (joinedIn T (a .s)) (a .lo) (a .hi) (s .pre .0) (c .before .blocked .ensures (c .if3 .taken))
-
-lesser-requires : tie.Need-lesser-requires Inv-loop μ-loop
-lesser-requires c κs = search needs
-
-mul-steps : tie.Need-mul-steps Inv-loop μ-loop
-mul-steps c = omega (arith, c .lesser .ensures)
 
 loop-less : tie.Need-loop-less Inv-loop μ-loop
 loop-less c = omega (arith, hop-less (c .before .before .before .before .leap-all .ensures) (search needs), c .before .before .before .before .before .before .leap-on .ensures .0)
@@ -126,10 +126,10 @@ least-number-spec =
     returns
     leap-all-requires
     returns-2
+    lesser-requires
+    mul-more
     blocked-requires
     returns-3
-    lesser-requires
-    mul-steps
     loop-less
     loop-again
     returns-4)

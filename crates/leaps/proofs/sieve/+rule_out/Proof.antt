@@ -1,7 +1,6 @@
 -- `leaps::sieve::rule_out` rules out the numbers of one remainder by one more digit. The measure is the steps.
 use native.Mathlib.Omega.{arith}
 use Prim.Native.Nat.{ℕ, _*_, _<_}
-use mathlib.Core.Path.{sym, _∙_}
 use borrow.Author.Tests.{not-true}
 use borrow.Author.Needs.{needs}
 use borrow.Fn.Kinds.{In}
@@ -71,7 +70,7 @@ rule-out-returns-4 t c =
     let P = passesAll (a .q) (joinedIn T (a .s)) in
     let p = c .before .before .may-pass in (
       λ h. out-more P (a .m) (a .d) (s .pre .1 .1)
-          (none-left (a .q) (10 * a .m) (a .d) (joinedIn T (a .s)) (omega (arith, s .pre .1 .1)) (omega arith) (sym (p .ensures) ∙ not-true _ (c .before .if4 .taken)))
+          (none-left (a .q) (10 * a .m) (a .d) (joinedIn T (a .s)) (p .result) (omega (arith, s .pre .1 .1)) (omega arith) (p .ensures) (not-true _ (c .before .if4 .taken)))
           (c .rule-out .ensures .0 h),
       omega (arith, c .rule-out .ensures .1),
     )

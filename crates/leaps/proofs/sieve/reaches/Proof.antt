@@ -1,34 +1,40 @@
 -- `leaps::sieve::reaches`: the nearest number from a on that has the remainder is at most b.
 use native.Mathlib.Omega.{arith}
 use native.Mathlib.Nat.{mod-lt}
+use Prim.Native.Nat.{_+_, _-_, _%_, _<_}
 use mathlib.Core.Path.{refl}
-use Prim.Native.Nat.{_+_, _-_, _%_}
-use Rattle.clash_laws.specs.Sieve.{reached}
+use Rattle.clash_laws.proofs.Sieving.{reach-near, reach-round}
 use borrow.Author.Needs.{needs}
 use Rattle.leaps.proofs.sieve.reaches.Statement.{statement}
 use Rattle.leaps.proofs.sieve.reaches.Tie as tie
 
-rem-result : tie.Need-rem-result
-rem-result c = search needs
+rem-up : tie.Need-rem-up
+rem-up c = search needs
 
-sub-result : tie.Need-sub-result
-sub-result c = omega (arith, mod-lt (c .args .a) {m = c .args .m} (c .pre .0))
+sub-up : tie.Need-sub-up
+sub-up c =
+    let a = c .args in
+    omega (arith, mod-lt (a .a) {m = a .m} (let h : 0 < a .m = omega (arith, c .pre .0) in h))
+
+add-up : tie.Need-add-up
+add-up c = search needs
 
 add-result : tie.Need-add-result
 add-result c = search needs
 
-rem-result-2 : tie.Need-rem-result-2
-rem-result-2 c = search needs
+returns : tie.Need-returns
+returns c =
+    let a = c .before .args in
+    reach-near (a .m) (a .z) (a .a) (a .b) (a .z + (a .m - a .a % a .m)) _ (c .before .pre .0) refl (search needs) refl
 
 add-result-2 : tie.Need-add-result-2
-add-result-2 c =
-    let a = c .args in
-    omega (arith, mod-lt (a .z + (a .m - a .a % a .m)) {m = a .m} (c .pre .0))
+add-result-2 c = search needs
 
-returns : tie.Need-returns
-unfolding reached
-returns c = refl
+returns-2 : tie.Need-returns-2
+returns-2 c =
+    let a = c .before .args in
+    reach-round (a .m) (a .z) (a .a) (a .b) (a .z + (a .m - a .a % a .m)) _ (c .before .pre .0) refl (search needs) refl
 
 pub reaches-spec : {M : Type 1} → statement M
 reaches-spec =
-    tie.close (tie.spec rem-result sub-result add-result rem-result-2 add-result-2 returns)
+    tie.close (tie.spec rem-up sub-up add-up add-result returns add-result-2 returns-2)

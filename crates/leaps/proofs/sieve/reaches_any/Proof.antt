@@ -40,7 +40,7 @@ element-copy-out-reaches c = search needs
 reaches-requires : tie.Need-reaches-requires Inv-loop μ-loop
 reaches-requires c κs =
     let s = c .before .before .before .before .before .before in
-    (s .pre .1, s .pre .2, s .pre .3)
+    (s .pre .1, s .pre .2)
 
 returns : tie.Need-returns Inv-loop μ-loop
 returns c =
