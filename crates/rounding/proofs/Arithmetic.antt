@@ -277,15 +277,18 @@ up-most step odd r h =
     (λ k. choice (λ (n : ℕ). n ≤ 1) (ltb step (2 * r)) (λ l. omega arith) (λ l. h))
 
 -- rounding adds less than a step
-units-below : (step n v : ℕ) → stepsOf (step * 10 ^ v) n * step ≤ n + step
-units-below step n v =
-    let s = step * 10 ^ v in
+pub steps-below : (step s n : ℕ) → step ≤ s → stepsOf s n * step ≤ n + step
+steps-below step s n h =
     let q = n / s in
     let u = up s (q % 2) (n % s) in
-    let a : step * 1 ≤ s = mul-le-mul-left step (power-pos v) in
-    let b : q * step ≤ q * s = mul-le-mul-left q (omega arith) in
+    let b : q * step ≤ q * s = mul-le-mul-left q h in
     let c : u * step ≤ 1 * step = mul-le-mul-right step (up-most s (q % 2) (n % s) (omega arith)) in
     omega (arith, div-add-mod' n s)
+
+units-below : (step n v : ℕ) → stepsOf (step * 10 ^ v) n * step ≤ n + step
+units-below step n v =
+    let a : step * 1 ≤ step * 10 ^ v = mul-le-mul-left step (power-pos v) in
+    steps-below step (step * 10 ^ v) n (omega arith)
 
 le-lt : (a b c : ℕ) → a ≤ b → b < c → a < c
 le-lt a b c h l = omega arith

@@ -1,14 +1,15 @@
-// Rounds a decimal value once, exactly, to the nearest multiple of a step: no machine integer holds
-// the value, so it stands in an area of decimal digits, the highest first.
+// Rounds a decimal value once, exactly, to the nearest multiple of a step, and writes its digits.
 //
 // The entry is round_into. specs/Nearest.antt says which multiple is meant, specs/Limits.antt the
-// bounds.
+// bounds. Two engines find it: the word engine where a machine integer holds the value, the digit
+// engine, which works in the area of decimal digits, the highest first, for every value.
 ghost use mathlib.Core.Path.{_≡_};
+ghost use mathlib.Core.Bool.{true};
 ghost use Prim.Native.Nat.{_+_, _*_, _-_, _/_, _%_, _^_, _≤_, _<_};
 ghost use lib.ListN.{length};
 ghost use Rattle.decimal.specs.Digits.{AllDigits, value, figures};
-ghost use Rattle.rounding.specs.Nearest.{up, stepsOf, exact};
-ghost use Rattle.rounding.specs.Limits.{width, maxInteger, maxPlaces, maxFraction, maxFactor, maxStep, within, rounded};
+ghost use Rattle.rounding.specs.Nearest.{up, stepsOf, exact, unitsOf};
+ghost use Rattle.rounding.specs.Limits.{width, maxInteger, maxPlaces, maxFraction, maxFactor, maxStep, maxWord, within, inWord, rounded};
 
 const WIDTH: usize = 41;
 
@@ -21,6 +22,22 @@ const MAX_FRACTION: u64 = 1_000_000_000;
 const MAX_FACTOR: u64 = 1000;
 
 const MAX_STEP: u64 = 999_999;
+
+const MAX_WORD: u64 = 1_000_000_000_000_000_000;
+
+// The powers of ten from 10 ^ 0 on.
+const TENS: [u64; 10] = [
+    1,
+    10,
+    100,
+    1000,
+    10_000,
+    100_000,
+    1_000_000,
+    10_000_000,
+    100_000_000,
+    1_000_000_000,
+];
 
 // The value of a digit; 0 of a byte below `0`.
 fn digit(b: u8) -> u64
@@ -36,13 +53,16 @@ fn ten_to(k: usize) -> u64
     requires { ⌜ k ≤ maxPlaces ⌝ }
     ensures { λ r. ⌜ (r ≡ 10 ^ k) × (r ≤ 1000000000) ⌝ }
 {
-    let mut p: u64 = 1;
-    let mut i = 0;
-    while i < k {
-        p = 10 * p;
-        i += 1;
+    TENS[k]
+}
+
+fn less(a: usize, b: usize) -> usize
+    ensures { λ r. ⌜ r ≡ a - b ⌝ }
+{
+    if a < b {
+        return 0;
     }
-    p
+    a - b
 }
 
 // Multiplies the number of the digits d by m in place, and adds c.
@@ -146,6 +166,89 @@ fn round_by(d: &mut [u8], step: u64, scaled: u64)
     scale(d, step, u * step);
 }
 
+// Fills d with the digits of the rounded value, by the digit engine.
+fn round_digits(d: &mut [u8], step: u64, factor: u64, most: usize, i: u64, v: usize, f: u64)
+    requires { ⌜ (width ≤ length (now d)) × (within step factor most i v f ≡ true) ⌝ }
+    ensures { λ _. ⌜ now (d .exit) ≡ figures (length (now (d .entry))) (unitsOf step factor most i v f) ⌝ }
+{
+    write_exact(d, factor, most, i, v, f);
+    round_by(d, step, step * ten_to(v));
+}
+
+// What the operands are taken times in a word: the factor, and what 10 ^ most has above 10 ^ v.
+fn rise_of(factor: u64, most: usize, v: usize) -> u64
+    requires { ⌜ (factor ≤ maxFactor) × (most ≤ maxPlaces) × (v ≤ maxPlaces) ⌝ }
+    ensures { λ r. ⌜ (r ≡ factor * 10 ^ (most - v)) × (10 ^ v * r ≤ 1000000000000) ⌝ }
+{
+    factor * ten_to(less(most, v))
+}
+
+// The step in a word: times what 10 ^ v has above 10 ^ most.
+fn scaled_of(step: u64, most: usize, v: usize) -> u64
+    requires { ⌜ (0 < step) × (step ≤ maxStep) × (v ≤ maxPlaces) ⌝ }
+    ensures { λ r. ⌜ (r ≡ step * 10 ^ (v - most)) × (step ≤ r) × (r ≤ 1000000000000000) ⌝ }
+{
+    step * ten_to(less(v, most))
+}
+
+// Whether the value of i and of fraction digits of value f, in units of which `unit` make one, each
+// taken `rise` times, has room in a word.
+fn is_in_word(unit: u64, rise: u64, i: u64, f: u64) -> bool
+    requires { ⌜ unit * rise ≤ 1000000000000 ⌝ }
+    ensures { λ r. ⌜ r ≡ inWord unit rise i f ⌝ }
+{
+    if unit < f {
+        return false;
+    }
+    let whole = unit * rise;
+    if whole == 0 {
+        return false;
+    }
+    i < MAX_WORD / whole
+}
+
+// That value.
+fn word_of(unit: u64, rise: u64, i: u64, f: u64) -> u64
+    requires { ⌜ inWord unit rise i f ≡ true ⌝ }
+    ensures { λ r. ⌜ (r ≡ (i * unit + f) * rise) × (r ≤ maxWord) ⌝ }
+{
+    (i * unit + f) * rise
+}
+
+// The number of steps nearest to n.
+fn steps_of(step: u64, n: u64) -> u64
+    requires { ⌜ (0 < step) × (step ≤ 1000000000000000) × (n ≤ maxWord) ⌝ }
+    ensures { λ r. ⌜ r ≡ stepsOf step n ⌝ }
+{
+    let q = n / step;
+    q + up_by(step, q % 2, n % step)
+}
+
+// Fills d with the digits of the number of steps nearest to n, each of which is `scaled` of its
+// units, times the step.
+fn round_word(d: &mut [u8], step: u64, scaled: u64, n: u64)
+    requires { ⌜ (step ≤ scaled) × (0 < scaled) × (scaled ≤ 1000000000000000) × (n ≤ maxWord) ⌝ }
+    ensures { λ _. ⌜ now (d .exit) ≡ figures (length (now (d .entry))) (stepsOf scaled n * step) ⌝ }
+{
+    decimal::figure::write_figures(d, steps_of(scaled, n) * step);
+}
+
+// Rounds by the word engine where the value has room, else by the digit engine. A word has no power
+// of ten that the exact value and the step share.
+fn round_within(d: &mut [u8], step: u64, factor: u64, most: usize, i: u64, v: usize, f: u64)
+    requires { ⌜ (width ≤ length (now d)) × (within step factor most i v f ≡ true) ⌝ }
+    ensures { λ _. ⌜ now (d .exit) ≡ figures (length (now (d .entry))) (unitsOf step factor most i v f) ⌝ }
+{
+    let unit = ten_to(v);
+    let rise = rise_of(factor, most, v);
+    if is_in_word(unit, rise, i, f) {
+        let n = word_of(unit, rise, i, f);
+        round_word(d, step, scaled_of(step, most, v), n);
+        return;
+    }
+    round_digits(d, step, factor, most, i, v, f);
+}
+
 // Fills d with the digits of the multiple of the step nearest to the value of i and of v fraction
 // digits of value f, times the factor, in units of the last of `most` fraction places. Says whether
 // the operands are within the bounds; where not, or where d has fewer than WIDTH places, d is left.
@@ -166,8 +269,7 @@ pub fn round_into(
         return good;
     }
     if good {
-        write_exact(d, factor, most, i, v, f);
-        round_by(d, step, step * ten_to(v));
+        round_within(d, step, factor, most, i, v, f);
         return true;
     }
     false
