@@ -1,6 +1,6 @@
 -- Laws of the word engine: a power of ten that the exact value and the step share makes no difference, and what is left has room in a machine word.
-use mathlib.Core.Path.{_≡_, refl, sym, ap, _∙_}
-use mathlib.Core.Bool.{Bool, true, false}
+use mathlib.Core.Path.{_≡_, sym, ap, _∙_}
+use mathlib.Core.Bool.{true}
 use mathlib.Core.List.{List, [], _∷_}
 use Prim.Native.Nat.{ℕ, zero, suc, _+_, _*_, _-_, _/_, _%_, _^_, _≤_, _<_, min}
 use native.Mathlib.Omega.{arith}
@@ -9,11 +9,10 @@ use lib.Arith.{digits-div, digits-mod}
 use lib.Pow.{pow-add}
 use lib.Dec.{ltb, leb}
 use lib.ListN.{getD}
-use borrow.Author.Tests.{ltb-true, leb-true, le-leb, lt-leb}
-use Rattle.decimal.specs.Choice.{if_then_else_, both}
+use borrow.Author.Tests.{ltb-true, leb-true}
 use Rattle.decimal.proofs.Choices.{tested, not-both, ltb-same}
 use Rattle.decimal.proofs.Values.{power-mono, power-pos}
-use Rattle.rounding.specs.Nearest.{up, stepsOf, exact, unitsOf}
+use Rattle.rounding.specs.Nearest.{up, stepsOf, unitsOf}
 use Rattle.rounding.specs.Limits.{maxPlaces, maxFactor, maxWord, inWord}
 use Rattle.rounding.proofs.Nearest.{by-le}
 

@@ -1,7 +1,5 @@
 -- `rounding::is_in_word` tests what the definition tests; a quotient by nothing is 0, and no integer is below it.
 use native.Mathlib.Omega.{arith}
-use mathlib.Core.Path.{_≡_, sym, ap, _∙_}
-use Prim.Native.Nat.{_/_}
 use native.Mathlib.Nat.{div-zero}
 use borrow.Author.Tests.{lt-leb, le-leb, le-ltb}
 use Rattle.rounding.specs.Limits.{maxWord}

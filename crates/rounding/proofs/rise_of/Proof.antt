@@ -1,7 +1,7 @@
 -- `rounding::rise_of` multiplies the factor by the power of ten that the fraction places have above those of the number.
 use native.Mathlib.Omega.{arith}
 use mathlib.Core.Path.{_≡_}
-use Prim.Native.Nat.{_*_, _^_, _-_}
+use Prim.Native.Nat.{_^_, _-_}
 use native.Mathlib.Nat.{mul-le-mul}
 use Rattle.rounding.proofs.Words.{rise-room}
 use borrow.Author.Needs.{needs}

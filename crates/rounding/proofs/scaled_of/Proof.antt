@@ -1,7 +1,7 @@
 -- `rounding::scaled_of` multiplies the step by the power of ten that the number's places have above the fraction places.
 use native.Mathlib.Omega.{arith}
 use mathlib.Core.Path.{_≡_}
-use Prim.Native.Nat.{_*_, _^_, _-_, _≤_}
+use Prim.Native.Nat.{_^_, _-_, _≤_}
 use native.Mathlib.Nat.{mul-le-mul, mul-le-mul-left}
 use Rattle.decimal.proofs.Values.{power-pos}
 use borrow.Author.Needs.{needs}

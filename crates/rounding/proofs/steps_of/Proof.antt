@@ -1,8 +1,6 @@
 -- `rounding::steps_of` divides, and takes the next multiple where the remainder asks for it.
 use native.Mathlib.Omega.{arith}
 use native.Mathlib.Nat.{mod-lt, div-le-self}
-use mathlib.Core.Path.{ap}
-use Prim.Native.Nat.{_+_, _/_}
 use borrow.Author.Needs.{needs}
 use Rattle.rounding.proofs.steps_of.Statement.{statement}
 use Rattle.rounding.proofs.steps_of.Tie as tie

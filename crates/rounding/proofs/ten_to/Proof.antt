@@ -1,7 +1,7 @@
 -- `rounding::ten_to` reads the table: its entries are each ten times the one before.
 use native.Mathlib.Omega.{arith}
 use mathlib.Core.Path.{_≡_, _∙_}
-use Prim.Native.Nat.{_^_, _*_}
+use Prim.Native.Nat.{_^_}
 use lib.ListN.{getD}
 use Rattle.decimal.proofs.Values.{power-mono}
 use Rattle.rounding.proofs.Words.{powers, powers-at}

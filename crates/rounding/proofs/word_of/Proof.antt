@@ -2,7 +2,6 @@
 use mathlib.Core.Path.{refl}
 use native.Mathlib.Omega.{arith}
 use Rattle.rounding.proofs.Words.{word-room}
-use borrow.Author.Needs.{needs}
 use Rattle.rounding.proofs.word_of.Statement.{statement}
 use Rattle.rounding.proofs.word_of.Tie as tie
 
