@@ -9,7 +9,7 @@ use borrow.Author.Tests.{ltb-true, ltb-false}
 use native.Mathlib.Numerals.{add-one}
 use lib.Arith.{mod-mul, digits-div, digits-mod}
 use lib.ListN.{length, getD, take, drop, set, length-append, length-set, length-drop, take-append-drop}
-use lib.Seq.{drop-cons, drop-length, append-snoc, getD-set-same, drop-set-lt, take-suc, take-length, take-all, take-take, take-set-le, take-suc-set, take-append-seam}
+use lib.Seq.{drop-cons, drop-length, append-snoc, getD-set-same, drop-set-lt, take-suc, take-length, take-take, take-set-le, take-suc-set, take-append-seam}
 use Rattle.decimal.specs.Digits.{isDigit, run, valueFrom, value, figures, lead, AllDigits, shown, wide, numeral}
 use Rattle.decimal.proofs.Choices.{tested}
 use Rattle.decimal.proofs.Runs.{digits-append, digits-cons, digit-is, digit-bounds, digits-head, digits-take, digits-drop}

@@ -5,11 +5,11 @@ use mathlib.Core.List.{List, [], _∷_}
 use Prim.Native.Nat.{ℕ, zero, suc, _+_, _-_, _≤_, _<_}
 use native.Mathlib.Omega.{arith}
 use native.Mathlib.Numerals.{add-one}
-use borrow.Author.Tests.{eqb-true, eq-eqb}
+use borrow.Author.Tests.{eqb-true}
 use lib.Dec.{eqb}
 use lib.ListN.{length, getD, drop, drop-of-length-le}
 use lib.Seq.{drop-cons}
-use Rattle.decimal.specs.Choice.{if_then_else_, both}
+use Rattle.decimal.specs.Choice.{if_then_else_}
 use Rattle.decimal.specs.Split.{until}
 use Rattle.decimal.proofs.Choices.{choice, tested, not-both}
 use Rattle.lexer.specs.declared.Mark.{Mark}

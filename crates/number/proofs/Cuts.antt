@@ -1,5 +1,5 @@
 -- Laws of the reader's cuts: a part is cut off in one way, whether its sign, point or mark is written or not.
-use mathlib.Core.Path.{_≡_, refl}
+use mathlib.Core.Path.{_≡_}
 use mathlib.Core.Bool.{Bool, true, false}
 use mathlib.Core.List.{List}
 use mathlib.Core.Option.{none, some}

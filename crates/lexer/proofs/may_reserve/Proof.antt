@@ -1,6 +1,5 @@
 -- `lexer::may_reserve` tests the bytes one after the other.
 use borrow.Author.Tests.{eq-eqb, ne-eqb}
-use borrow.Author.Needs.{needs}
 use Rattle.lexer.proofs.may_reserve.Statement.{statement}
 use Rattle.lexer.proofs.may_reserve.Tie as tie
 

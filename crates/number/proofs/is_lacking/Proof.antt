@@ -1,5 +1,4 @@
 -- `number::is_lacking` answers its definition.
-use borrow.Author.Needs.{needs}
 use Rattle.number.proofs.is_lacking.Statement.{statement}
 use Rattle.number.proofs.is_lacking.Tie as tie
 
