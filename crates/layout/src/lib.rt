@@ -2,8 +2,8 @@
 // an area that the caller lends.
 //
 // The entry is write_text. specs/Layout.antt says which digits are shown and how they are grouped,
-// specs/Text.antt what stands around them. Every function is total; what an area has no room for is
-// counted and not written.
+// specs/Text.antt what stands around them, specs/Plain.antt which bytes are copied there. Every
+// function is total; what an area has no room for is counted and not written.
 ghost use mathlib.Core.Path.{_≡_};
 ghost use mathlib.Core.List.{[]};
 ghost use Prim.Native.Nat.{_-_, max, min};

@@ -74,8 +74,9 @@ free-out s i h = rw (drop-of-length-le s h)
 
 -- ---- marks
 
+-- the byte of the mark of a number
 byteOf : ℕ → ℕ
-byteOf n = if eqb n 3 then 45 else if eqb n 4 then 43 else if eqb n 5 then 37 else 0xE2
+byteOf n = if eqb n 3 then markByte Minus else if eqb n 4 then markByte Plus else if eqb n 5 then markByte Percent else markByte Permille
 
 mark-byte : (m : Mark) → markByte m ≡ byteOf (markNumber m)
 unfolding byteOf

@@ -1,7 +1,8 @@
 // Reads the bytes of a pattern as items: literal text, symbols to print, number-part bytes, quotes.
 //
-// specs/Items.antt says which item stands where, specs/Affixes.antt what is asked of the items. A new
-// item is a line in the enum, in bare or token_at and in their definitions.
+// specs/Items.antt says which item stands where, specs/Affixes.antt what is asked of the items,
+// specs/Firsts.antt which bytes some tokens begin with. A new item is a line in the enum, in bare or
+// token_at and in their definitions.
 ghost use mathlib.Core.Path.{_≡_};
 ghost use Prim.Native.Nat.{_+_, _≤_, _<_};
 ghost use lib.ListN.{length, drop};
