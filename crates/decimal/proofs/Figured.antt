@@ -8,8 +8,8 @@ use lib.Dec.{ltb}
 use borrow.Author.Tests.{ltb-true, ltb-false}
 use native.Mathlib.Numerals.{add-one}
 use lib.Arith.{mod-mul, digits-div, digits-mod}
-use lib.ListN.{length, getD, take, drop, set, length-append, length-set, length-drop}
-use lib.Seq.{drop-cons, drop-length, append-snoc, getD-set-same, drop-set-lt, take-suc, take-length}
+use lib.ListN.{length, getD, take, drop, set, length-append, length-set, length-drop, take-append-drop}
+use lib.Seq.{drop-cons, drop-length, append-snoc, getD-set-same, drop-set-lt, take-suc, take-length, take-take, take-set-le, take-suc-set, take-append-seam}
 use Rattle.decimal.specs.Digits.{isDigit, run, valueFrom, value, figures, lead, AllDigits, shown, wide, numeral}
 use Rattle.decimal.proofs.Choices.{tested}
 use Rattle.decimal.proofs.Runs.{digits-append, digits-cons, digit-is, digit-bounds, digits-head, digits-take, digits-drop}
@@ -113,3 +113,24 @@ figures-again m i j o e h =
     let x = 48 + m % 10 in
     rw (e, drop-cons (set o j x) j 0 (simp length-set h), getD-set-same o j x 0 h, drop-set-lt (suc j) o j x (omega arith))
     (sym (append-snoc (figures j (m / 10)) x (drop (suc j) o)))
+
+-- ---- the front of an area of zeros
+
+pub zeros-length : (o₀ o : List ℕ) → o ≡ figures (length o₀) 0 → length o ≡ length o₀
+zeros-length o₀ o e = ap length e ∙ length-figures (length o₀) 0
+
+pub zeros-start : (o₀ o : List ℕ) → o ≡ figures (length o₀) 0 → take (length o) o ≡ figures (length o) 0
+zeros-start o₀ o e = take-length o ∙ e ∙ ap (λ (k : ℕ). figures k 0) (sym (zeros-length o₀ o e))
+
+pub zeros-more : (i : ℕ) (o : List ℕ) → i < length o → take i o ≡ figures i 0 → take (i + 1) (set o i 48) ≡ figures (i + 1) 0
+zeros-more i o h e = rw (add-one, take-suc-set o i 48 h, e)
+
+pub zeros-less : (i j x : ℕ) (o : List ℕ) → i ≡ suc j → take i o ≡ figures i 0 → take j (set o j x) ≡ figures j 0
+zeros-less i j x o e z =
+    let t : take j (take i o) ≡ take j (figures j 0 ++ (48 ∷ [])) = rw e (ap (take j) (rw e at z)) in
+    take-set-le j o j x (omega arith) ∙ sym (take-take j i o (omega arith)) ∙ t
+    ∙ rw (length-figures j 0) at (take-append-seam (figures j 0) (48 ∷ []))
+
+-- nothing is left to write but zeros, and zeros stand there
+pub zeros-done : (i m : ℕ) (o : List ℕ) → m ≡ 0 → take i o ≡ figures i 0 → figures i m ++ drop i o ≡ o
+zeros-done i m o e z = rw (e, ← z) (take-append-drop i o)

@@ -2,8 +2,8 @@
 // an area that the caller lends.
 //
 // The entry is write_text. specs/Layout.antt says which digits are shown and how they are grouped,
-// specs/Text.antt what stands around them. Every function is total; what an area has no room for is
-// counted and not written.
+// specs/Text.antt what stands around them, specs/Plain.antt which bytes are copied there. Every
+// function is total; what an area has no room for is counted and not written.
 ghost use mathlib.Core.Path.{_≡_};
 ghost use mathlib.Core.List.{[]};
 ghost use Prim.Native.Nat.{_-_, max, min};
@@ -12,6 +12,7 @@ ghost use Rattle.area.specs.Area.{Wrote};
 ghost use Rattle.lexer.specs.Items.{items};
 ghost use Rattle.symbols.specs.Entries.{symbolIn, standardRecord};
 ghost use Rattle.layout.specs.Layout.{wholeDigits, fractionDigits, spell, mark, grouped, pointed};
+ghost use Rattle.layout.specs.Plain.{isPlain, plain};
 ghost use Rattle.layout.specs.Text.{symbolOf, render, rendered, affixText, negativeAffixes, affixesOf, numberText, laidOut};
 use lexer::Item;
 use lexer::Mark;
@@ -96,8 +97,54 @@ fn append_item(out: &mut [u8], at: usize, house: &[u8], t: Item) -> usize
     }
 }
 
+// Whether b stands for itself wherever it stands.
+fn is_plain(b: u8) -> bool
+    ensures { λ r. ⌜ r ≡ isPlain b ⌝ }
+{
+    if b == 32 {
+        return true;
+    }
+    if b == 36 {
+        return true;
+    }
+    if b < 70 {
+        return false;
+    }
+    if b == 0xC2 {
+        return false;
+    }
+    if b == 0xE2 {
+        return false;
+    }
+    true
+}
+
+fn are_plain(s: &[u8]) -> bool
+    ensures { λ r. ⌜ r ≡ plain (now (s .entry)) ⌝ }
+{
+    let mut i = 0;
+    while i < s.len() {
+        if is_plain(s[i]) {
+            i += 1;
+        } else {
+            return false;
+        }
+    }
+    true
+}
+
 // What an affix prints.
 fn append_affix(out: &mut [u8], at: usize, house: &[u8], s: &[u8]) -> usize
+    ensures { λ r. ⌜ Wrote (now (out .entry)) at (rendered (symbolIn (now (house .entry)) standardRecord) (items (now (s .entry)))) (now (out .exit)) r ⌝ }
+{
+    if are_plain(s) {
+        return area::append(out, at, s);
+    }
+    append_items(out, at, house, s)
+}
+
+// The same, item by item.
+fn append_items(out: &mut [u8], at: usize, house: &[u8], s: &[u8]) -> usize
     ensures { λ r. ⌜ Wrote (now (out .entry)) at (rendered (symbolIn (now (house .entry)) standardRecord) (items (now (s .entry)))) (now (out .exit)) r ⌝ }
 {
     let mut quoted = false;

@@ -1,2 +1,3 @@
 pub mod Lower
 pub mod ItemLaws
+pub mod Firsts

@@ -1,11 +1,13 @@
 // Reads the bytes of a pattern as items: literal text, symbols to print, number-part bytes, quotes.
 //
-// specs/Items.antt says which item stands where, specs/Affixes.antt what is asked of the items. A new
-// item is a line in the enum, in bare or token_at and in their definitions.
+// specs/Items.antt says which item stands where, specs/Affixes.antt what is asked of the items,
+// specs/Firsts.antt which bytes some tokens begin with. A new item is a line in the enum, in bare or
+// token_at and in their definitions.
 ghost use mathlib.Core.Path.{_≡_};
 ghost use Prim.Native.Nat.{_+_, _≤_, _<_};
 ghost use lib.ListN.{length, drop};
 ghost use Rattle.lexer.specs.Items.{starts, isPlace, isReserved, bareOf, tokenAt, quotedAfter, isNumber, items};
+ghost use Rattle.lexer.specs.Firsts.{mayReserve, free, markByte};
 ghost use Rattle.lexer.specs.Affixes.{reserves, anyReserved, endsAffix, affix, markNumber, weight, marks};
 use decimal::cut;
 use decimal::scan;
@@ -239,8 +241,48 @@ pub fn affix_of(s: &[u8]) -> Affix
     }
 }
 
+// Whether a reserved token may begin with b.
+fn may_reserve(b: u8) -> bool
+    ensures { λ r. ⌜ r ≡ mayReserve b ⌝ }
+{
+    if b == 42 {
+        return true;
+    }
+    if b == 64 {
+        return true;
+    }
+    if b == 69 {
+        return true;
+    }
+    b == 0xC2
+}
+
+// Whether no reserved token can begin at any byte of s.
+fn is_free(s: &[u8]) -> bool
+    ensures { λ r. ⌜ r ≡ free (now (s .entry)) ⌝ }
+{
+    let mut i = 0;
+    while i < s.len() {
+        if may_reserve(s[i]) {
+            return false;
+        }
+        i += 1;
+    }
+    true
+}
+
 // Whether a reserved byte stands bare in s.
 pub fn has_reserved(s: &[u8]) -> bool
+    ensures { λ r. ⌜ r ≡ anyReserved (items (now (s .entry))) ⌝ }
+{
+    if is_free(s) {
+        return false;
+    }
+    finds_reserved(s)
+}
+
+// The same, token by token.
+fn finds_reserved(s: &[u8]) -> bool
     ensures { λ r. ⌜ r ≡ anyReserved (items (now (s .entry))) ⌝ }
 {
     let mut quoted = false;
@@ -292,8 +334,30 @@ fn weigh(m: Mark, t: Item) -> usize
     }
 }
 
+// The byte that the mark m begins with.
+fn mark_byte(m: Mark) -> u8
+    ensures { λ r. ⌜ r ≡ markByte m ⌝ }
+{
+    match m {
+        Mark::Minus => 45,
+        Mark::Plus => 43,
+        Mark::Percent => 37,
+        Mark::Permille => 0xE2,
+    }
+}
+
 // How often the mark m stands in s.
 pub fn count_marks(m: Mark, s: &[u8]) -> usize
+    ensures { λ r. ⌜ (r ≡ marks m (items (now (s .entry)))) × (r ≤ length (now (s .entry))) ⌝ }
+{
+    if scan::run_until(s, mark_byte(m)) == s.len() {
+        return 0;
+    }
+    count_tokens(m, s)
+}
+
+// The same, token by token.
+fn count_tokens(m: Mark, s: &[u8]) -> usize
     ensures { λ r. ⌜ (r ≡ marks m (items (now (s .entry)))) × (r ≤ length (now (s .entry))) ⌝ }
 {
     let mut quoted = false;

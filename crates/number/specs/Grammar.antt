@@ -5,7 +5,7 @@ use mathlib.Core.Bool.{Bool, true, false}
 use mathlib.Core.List.{List, [], _∷_, _++_}
 use Prim.Native.Nat.{ℕ, _<_}
 use lib.Dec.{eqb}
-use lib.ListN.{length, getD}
+use lib.ListN.{length, getD, drop}
 use Rattle.decimal.specs.Choice.{if_then_else_, both, either}
 use Rattle.decimal.specs.Digits.{run, AllDigits}
 
@@ -26,6 +26,10 @@ isExponent s =
     if eqb (length s) 0 then false else
     if eqb (getD s 0 0) 48 then false else
     eqb (run s) (length s)
+
+-- what may stand behind the digits: nothing, or a mark and an exponent
+abbrev pub isTail : List ℕ → Bool
+isTail s = if eqb (length s) 0 then true else both (isMark (getD s 0 0)) (isExponent (drop 1 s))
 
 -- the bytes of each part
 abbrev pub signText : Bool → List ℕ

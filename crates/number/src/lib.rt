@@ -4,11 +4,12 @@
 // is read of it, specs/Limits.antt the limits, each of which is one constant here.
 ghost use mathlib.Core.Path.{_≡_};
 ghost use Prim.Native.Nat.{_≤_};
-ghost use Rattle.decimal.specs.Choice.{both};
-ghost use Rattle.decimal.specs.Digits.{AllDigits};
+ghost use lib.Dec.{eqb};
+ghost use Rattle.decimal.specs.Choice.{if_then_else_, both};
+ghost use Rattle.decimal.specs.Digits.{AllDigits, run};
 ghost use Rattle.number.specs.Limits.{maxExponent};
-ghost use Rattle.number.specs.Grammar.{isMark, isExponent};
-ghost use Rattle.number.specs.Reading.{partsFrom, exponentAt, fractionAt, pointAt, wholeAt, afterZero, sized, judge, judged, readNumber};
+ghost use Rattle.number.specs.Grammar.{isMark, isExponent, isTail};
+ghost use Rattle.number.specs.Reading.{partsFrom, exponentAt, pointAt, wholeAt, afterZero, sized, judge, judged, readNumber};
 use answer::NumberRow;
 use answer::Refusal;
 use decimal::DigitValue;
@@ -130,44 +131,71 @@ fn parted(negative: bool, whole: &[u8], fraction: &[u8], exponent: &[u8]) -> Rea
     shifted(negative, whole, fraction, e)
 }
 
+// Whether s is nothing, or a mark and an exponent.
+fn is_tail(s: &[u8]) -> bool
+    ensures { λ r. ⌜ r ≡ isTail (now (s .entry)) ⌝ }
+{
+    if s.len() == 0 {
+        return true;
+    }
+    marks_exponent(s[0], decimal::cut::after(s, 1))
+}
+
 fn read_exponent(negative: bool, whole: &[u8], fraction: &[u8], s: &[u8]) -> Reading
     requires { ⌜ AllDigits (now whole) × AllDigits (now fraction) ⌝ }
     ensures { λ r. ⌜ r ≡ judged (exponentAt negative (now (whole .entry)) (now (fraction .entry)) (now (s .entry))) ⌝ }
 {
-    if s.len() == 0 {
-        return parted(negative, whole, fraction, s);
-    }
-    let x = decimal::cut::after(s, 1);
-    if marks_exponent(s[0], x) {
-        return parted(negative, whole, fraction, x);
+    if is_tail(s) {
+        return parted(negative, whole, fraction, decimal::cut::after(s, 1));
     }
     refuse(NumberRow::NotANumber)
 }
 
-fn read_fraction(negative: bool, whole: &[u8], s: &[u8]) -> Reading
-    requires { ⌜ AllDigits (now whole) ⌝ }
-    ensures { λ r. ⌜ r ≡ judged (fractionAt negative (now (whole .entry)) (now (s .entry))) ⌝ }
+fn one_if(on: bool) -> usize
+    ensures { λ r. ⌜ r ≡ if on then 1 else 0 ⌝ }
 {
-    let n = decimal::scan::digit_run(s);
-    if n == 0 {
-        return refuse(NumberRow::NotANumber);
+    if on {
+        return 1;
     }
-    read_exponent(
-        negative,
-        whole,
-        decimal::cut::upto(s, n),
-        decimal::cut::after(s, n),
-    )
+    0
+}
+
+// How many digits s begins with, where they are asked for.
+fn run_if(on: bool, s: &[u8]) -> usize
+    ensures { λ r. ⌜ r ≡ if on then run (now (s .entry)) else 0 ⌝ }
+{
+    if on {
+        return decimal::scan::digit_run(s);
+    }
+    0
+}
+
+// Whether n digits are too few.
+fn is_lacking(on: bool, n: usize) -> bool
+    ensures { λ r. ⌜ r ≡ both on (eqb n 0) ⌝ }
+{
+    if on {
+        return n == 0;
+    }
+    false
 }
 
 fn read_point(negative: bool, whole: &[u8], s: &[u8]) -> Reading
     requires { ⌜ AllDigits (now whole) ⌝ }
     ensures { λ r. ⌜ r ≡ judged (pointAt negative (now (whole .entry)) (now (s .entry))) ⌝ }
 {
-    if decimal::cut::begins_with(s, 46) {
-        return read_fraction(negative, whole, decimal::cut::after(s, 1));
+    let pointed = decimal::cut::begins_with(s, 46);
+    let t = decimal::cut::after(s, one_if(pointed));
+    let n = run_if(pointed, t);
+    if is_lacking(pointed, n) {
+        return refuse(NumberRow::NotANumber);
     }
-    read_exponent(negative, whole, decimal::cut::upto(s, 0), s)
+    read_exponent(
+        negative,
+        whole,
+        decimal::cut::upto(t, n),
+        decimal::cut::after(t, n),
+    )
 }
 
 fn read_whole(negative: bool, s: &[u8]) -> Reading
@@ -191,8 +219,6 @@ pub fn read_number(text: &[u8]) -> Reading
     if MAX_BYTES < text.len() {
         return refuse(NumberRow::NumberTooLong);
     }
-    if decimal::cut::begins_with(text, 45) {
-        return read_whole(true, decimal::cut::after(text, 1));
-    }
-    read_whole(false, text)
+    let negative = decimal::cut::begins_with(text, 45);
+    read_whole(negative, decimal::cut::after(text, one_if(negative)))
 }

@@ -6,7 +6,8 @@ use Prim.Native.Nat.{ℕ, _-_, _≤_, _<_}
 use native.Mathlib.Omega.{arith}
 use borrow.Author.Tests.{ltb-false, lt-ltb, le-ltb}
 use lib.Dec.{ltb}
-use lib.ListN.{length}
+use lib.ListN.{length, take, drop}
+use lib.Seq.{take-append-seam}
 use Rattle.decimal.specs.Digits.{figures}
 use Rattle.decimal.proofs.Choices.{tested, choice}
 use Rattle.decimal.proofs.Values.{power-mono}
@@ -93,6 +94,10 @@ ready-size house s p n eh ep =
 
 pub needed : (t o o′ : List ℕ) (need : ℕ) → length t ≤ most → Wrote o 0 t o′ need → need ≡ length t
 needed t o o′ need h w = omega (arith, w .next)
+
+-- a text that has room in an area stands at its front
+pub laid-aside : (t o o′ : List ℕ) (need : ℕ) → need ≡ length t → Wrote o 0 t o′ need → need ≤ length o → take need o′ ≡ t
+laid-aside t o o′ need e w h = rw (front t w (omega arith), e) (take-append-seam t (drop (length t) o))
 
 pub short-answer : (t area : List ℕ) (need : ℕ) → need ≡ length t → length area < need
     → (Refused (AreaTooShort need) ≡ answerOf (text t) area) × (area ≡ areaOf (text t) area)

@@ -27,7 +27,11 @@ pub enum Printed {
     Refused(Refusal),
 }
 
-// Prints the digits, or says how many bytes are needed: the same writer on an area of one byte tells.
+// A text of at most so many bytes is laid out once.
+const ROOM: usize = 64;
+
+// Prints the digits, or says how many bytes are needed. The text is laid out aside, so that a refusal
+// writes nothing; one that had no room there is laid out again.
 fn print_digits(
     house: &[u8],
     pattern: &[u8],
@@ -41,10 +45,14 @@ fn print_digits(
     ensures { λ _. ⌜ now (out .exit) ≡ areaOf (text (laidOut (symbolIn (now (house .entry)) standardRecord) (now (pattern .entry)) p (affixesOf p negative) (now (digits .entry)))) (now (out .entry)) ⌝ }
 {
     let a = layout::affixes_of(p, negative);
-    let mut scratch = [0u8; 1];
-    let need = layout::write_text(&mut scratch, house, pattern, p, a, digits);
+    let mut aside = [0u8; ROOM];
+    let need = layout::write_text(&mut aside, house, pattern, p, a, digits);
     if out.len() < need {
         return Printed::Refused(Refusal::AreaTooShort(need));
+    }
+    if need <= ROOM {
+        area::append(out, 0, decimal::cut::upto(&aside, need));
+        return Printed::Text(need);
     }
     layout::write_text(out, house, pattern, p, a, digits);
     Printed::Text(need)

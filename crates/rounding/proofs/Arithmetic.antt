@@ -5,18 +5,19 @@ use mathlib.Core.List.{List, [], _∷_, _++_}
 use Prim.Native.Nat.{ℕ, zero, suc, _+_, _*_, _-_, _/_, _%_, _^_, _≤_, _<_}
 use native.Mathlib.Omega.{arith}
 use native.Mathlib.Numerals.{add-one}
-use native.Mathlib.Nat.{div-add-mod', mod-lt, mul-le-mul-left, mul-le-mul-right, mul-le-mul, div-lt-iff-lt-mul, mod-eq-of-lt, div-le-self, add-zero, pow-succ'}
+use native.Mathlib.Nat.{div-add-mod', mod-lt, mod-one, div-one, zero-div, zero-mod, mul-le-mul-left, mul-le-mul-right, mul-le-mul, div-lt-iff-lt-mul, mod-eq-of-lt, div-le-self, pow-succ'}
 use lib.Arith.{digits-div, digits-mod}
 use lib.Pow.{pow-add}
-use lib.Dec.{ltb, leb}
-use borrow.Author.Tests.{le-ltb, ltb-false, leb-true, le-leb}
+use lib.Dec.{ltb, leb, eqb}
+use borrow.Author.Tests.{eqb-true, le-ltb, ltb-false, leb-true, le-leb}
 use Rattle.decimal.proofs.Choices.{tested, choice, not-both}
 use lib.ListN.{length, getD, take, drop, set, length-set}
 use lib.Seq.{drop-cons, take-suc, take-suc-set, take-length, take-set-le, take-all, drop-set-lt}
-use Rattle.decimal.specs.Digits.{isDigit, AllDigits, value, figures}
+use Rattle.decimal.specs.Digits.{isDigit, AllDigits, value, figures, lead}
 use Rattle.decimal.proofs.Runs.{digit-bounds, digits-head}
 use Rattle.decimal.proofs.Values.{value-snoc, value-more, value-lt, power-mono, power-pos}
-use Rattle.decimal.proofs.Figured.{length-figures, digits-figures, value-figures, figures-start, figures-again}
+use Rattle.decimal.proofs.Figured.{length-figures, digits-figures, value-figures, figures-of, figures-start, figures-again}
+use Rattle.decimal.proofs.Zeros.{lead-le}
 use Rattle.rounding.specs.Nearest.{up, stepsOf, exact, unitsOf}
 use Rattle.rounding.specs.Limits.{width, maxInteger, maxPlaces, maxFraction, maxFactor, maxStep, within}
 
@@ -74,15 +75,27 @@ pub record Dividing (step : ℕ) (d₀ d : List ℕ) (r i : ℕ) : Type 0 where
   pub left : drop i d ≡ drop i d₀
   pub rest : r ≡ value (take i d₀) % step
 
-pub divide-start : (step : ℕ) (d : List ℕ) → 0 < step → Dividing step d d 0 0
-divide-start step d h =
+zeros-cons : (k : ℕ) → 48 ∷ figures k 0 ≡ figures (suc k) 0
+zeros-cons zero = refl
+zeros-cons (suc k) = ap (λ (l : List ℕ). l ++ (48 ∷ [])) (zeros-cons k)
+
+lead-zeros : (d : List ℕ) → take (lead d) d ≡ figures (lead d) 0
+lead-zeros [] = refl
+lead-zeros (b ∷ d) =
+    tested (eqb b 48) (λ e. rw (e, eqb-true b 48 e) (ap (λ (l : List ℕ). 48 ∷ l) (lead-zeros d) ∙ zeros-cons (lead d))) (λ e. rw e)
+
+-- leading zeros are their own quotient
+pub divide-start : (step z : ℕ) (d : List ℕ) → 0 < step → z ≡ lead d → Dividing step d d 0 z
+divide-start step z d h e =
+    let f : take z d ≡ figures z 0 = rw e (lead-zeros d) in
+    let v : value (take z d) ≡ 0 = ap value f ∙ value-figures z 0 ∙ zero-mod (10 ^ z) in
     record {
       size = refl;
-      at = omega arith;
+      at = omega (arith, lead-le d);
       low = h;
-      front = refl;
+      front = rw (v, zero-div step) f;
       left = refl;
-      rest = sym (mod-eq-of-lt h);
+      rest = rw (v, zero-mod step);
     }
 
 -- the digit read is the one that stood there, and the quotient's digit is one
@@ -162,18 +175,21 @@ length-of k n d e = ap length e ∙ length-figures k n
 room : (k j : ℕ) → j ≤ k → (n : ℕ) → n < 10 ^ j → n < 10 ^ k
 room k j h n l = omega (arith, power-mono {i = j} {j = k} h)
 
--- the exact value from its operands: the integer's digits, those of the fraction behind them, and then the factor
-pub exact-written : (k i v f factor most p t : ℕ) (d₁ d₂ d₃ : List ℕ) → width ≤ k → i ≤ maxInteger → f ≤ maxFraction → p ≡ 10 ^ v → p ≤ 1000000000 → t ≡ 10 ^ most
-    → d₁ ≡ figures k i → d₂ ≡ figures (length d₁) (value d₁ * p + f) → d₃ ≡ figures (length d₂) (value d₂ * (factor * t) + 0)
-    → d₃ ≡ figures k (exact factor most i v f)
-exact-written k i v f factor most p t d₁ d₂ d₃ hk hi hf ep hp et e₁ e₂ e₃ =
-    let l₁ = length-of k i d₁ e₁ in
-    let v₁ : value d₁ ≡ i = ap value e₁ ∙ value-room k i (room k 19 (omega arith) i (omega arith)) in
-    let e₂′ : d₂ ≡ figures k (i * p + f) = rw (l₁, v₁) at e₂ in
-    let l₂ = length-of k (i * p + f) d₂ e₂′ in
-    let v₂ : value d₂ ≡ i * p + f = ap value e₂′ ∙ value-room k (i * p + f) (room k 28 (omega arith) (i * p + f) (omega (arith, mul-le-mul hi hp))) in
-    let e₃′ : d₃ ≡ figures k ((i * p + f) * (factor * t) + 0) = rw (l₂, v₂) at e₃ in
-    rw (← ep, ← et) (e₃′ ∙ ap (figures k) (add-zero ((i * p + f) * (factor * t))))
+-- a product with the number of digits that were written, and a number added
+pub scaled-written : (k n m c : ℕ) (d₁ d₂ : List ℕ) → n < 10 ^ k → d₁ ≡ figures k n → d₂ ≡ figures (length d₁) (value d₁ * m + c) → d₂ ≡ figures k (n * m + c)
+scaled-written k n m c d₁ d₂ h e₁ e₂ =
+    let l : length d₁ ≡ k = length-of k n d₁ e₁ in
+    let v : value d₁ ≡ n = ap value e₁ ∙ value-room k n h in
+    rw (l, v) at e₂
+
+pub integer-room : (k i : ℕ) → width ≤ k → i ≤ maxInteger → i < 10 ^ k
+integer-room k i hk hi = room k 19 (omega arith) i (omega arith)
+
+whole-most : (unit i f : ℕ) → unit ≤ 1000000000 → i ≤ maxInteger → f ≤ maxFraction → i * unit + f ≤ 10 ^ 28
+whole-most unit i f hu hi hf = omega (arith, mul-le-mul hi hu)
+
+pub whole-room : (k unit i f : ℕ) → width ≤ k → unit ≤ 1000000000 → i ≤ maxInteger → f ≤ maxFraction → i * unit + f < 10 ^ k
+whole-room k unit i f hk hu hi hf = room k 29 (omega arith) (i * unit + f) (omega (arith, whole-most unit i f hu hi hf))
 
 -- a product has room where its factors' digits do
 product-room : (k a b n m : ℕ) → suc (a + b) ≤ k → n ≤ 10 ^ a → m ≤ 10 ^ b → n * m < 10 ^ k
@@ -183,14 +199,8 @@ product-room k a b n m h x y =
     let e : 10 ^ suc (a + b) ≡ 10 * (10 ^ a * 10 ^ b) = pow-succ' 10 (a + b) ∙ ap (λ (z : ℕ). 10 * z) (pow-add 10 a b) in
     omega (arith, mul-le-mul (power-pos a) (power-pos b))
 
--- it has room
-pub exact-room : (k i v f factor most : ℕ) → width ≤ k → i ≤ maxInteger → f ≤ maxFraction → v ≤ maxPlaces → factor ≤ maxFactor → most ≤ maxPlaces
-    → exact factor most i v f < 10 ^ k
-exact-room k i v f factor most hk hi hf hv hc hm =
-    let a : i * 10 ^ v ≤ maxInteger * 10 ^ 9 = mul-le-mul hi (power-mono hv) in
-    let b : factor * 10 ^ most ≤ 10 ^ 12 = mul-le-mul hc (power-mono hm) in
-    let c : i * 10 ^ v + f ≤ 10 ^ 28 = omega arith in
-    product-room k 28 12 (i * 10 ^ v + f) (factor * 10 ^ most) (omega arith) c b
+pub exact-room : (k unit rise i f : ℕ) → width ≤ k → unit ≤ 1000000000 → rise ≤ 1000000000000 → i ≤ maxInteger → f ≤ maxFraction → (i * unit + f) * rise < 10 ^ k
+exact-room k unit rise i f hk hu hr hi hf = product-room k 28 12 (i * unit + f) rise (omega arith) (whole-most unit i f hu hi hf) (omega arith)
 
 -- a division, the test at the half, and the product back
 pub rounds : (step s : ℕ) (d₀ d₁ d₂ : List ℕ) (r odd u : ℕ) → 0 < s → AllDigits d₀
@@ -205,6 +215,21 @@ rounds step s d₀ d₁ d₂ r odd u h a er e₁ eo eu e₂ =
     let w : u ≡ up s (q % 2) (value d₀ % s) = eu ∙ rw (eo, er, v₁) in
     let z : q * step + u * step ≡ (q + u) * step = omega arith in
     rw (l₁, v₁, z, w) at e₂
+
+-- digits are those of their number, also where it is taken once and nothing is added
+pub same-digits : (m c : ℕ) (d : List ℕ) → m ≡ 1 → c ≡ 0 → AllDigits d → d ≡ figures (length d) (value d * m + c)
+same-digits m c d em ec a =
+    let e : value d * 1 + 0 ≡ value d = omega arith in
+    rw (em, ec, e) (sym (figures-of d a))
+
+-- every number is a step
+pub all-steps : (step s : ℕ) (d : List ℕ) → 0 < step → step ≤ s → s ≡ 1 → AllDigits d → d ≡ figures (length d) (stepsOf s (value d) * step)
+all-steps step s d h l e a =
+    let one : step ≡ 1 = omega arith in
+    let n = value d in
+    let r : n % 1 ≡ 0 = mod-one n in
+    let k : stepsOf 1 n * 1 ≡ n = rw (r, div-one n) (omega arith) in
+    rw (e, one, k) (sym (figures-of d a))
 
 -- ---- the bounds
 
@@ -248,23 +273,12 @@ fits-within step factor most i v f x =
       le-ltb maxPlaces v (x .places-most),
     ) (le-leb f maxFraction (x .fraction-most))
 
--- the step in the exact value's units
-pub scaled-step : (step v p : ℕ) → 0 < step → step ≤ maxStep → p ≡ 10 ^ v → p ≤ 1000000000 → (0 < step * p) × (step * p ≤ 1000000000000000)
-scaled-step step v p h s e l =
-    let b : 1 ≤ p = rw e (power-pos v) in
-    let q : 1 * 1 ≤ step * p = mul-le-mul h b in
-    (omega arith, omega (arith, mul-le-mul s l))
-
--- what is written is the definition's
-pub rounded-is : (step factor most i v f p : ℕ) (d₀ d₁ d₂ : List ℕ) → width ≤ length d₀ → Fits step factor most i v f → p ≡ 10 ^ v
-    → d₁ ≡ figures (length d₀) (exact factor most i v f) → d₂ ≡ figures (length d₁) (stepsOf (step * p) (value d₁) * step)
-    → d₂ ≡ figures (length d₀) (unitsOf step factor most i v f)
-rounded-is step factor most i v f p d₀ d₁ d₂ hk x ep e₁ e₂ =
-    let k = length d₀ in
-    let n = exact factor most i v f in
-    let v₁ : value d₁ ≡ n = ap value e₁ ∙ value-room k n (exact-room k i v f factor most hk (x .integer-most) (x .fraction-most) (x .places-most) (x .factor-most) (x .most-most)) in
-    let l₁ = length-of k n d₁ e₁ in
-    rw (l₁, v₁, ep) at e₂
+-- what is rounded is the number that was written
+pub rounded-is : (k n step s : ℕ) (d₁ d₂ : List ℕ) → n < 10 ^ k → d₁ ≡ figures k n → d₂ ≡ figures (length d₁) (stepsOf s (value d₁) * step) → d₂ ≡ figures k (stepsOf s n * step)
+rounded-is k n step s d₁ d₂ h e₁ e₂ =
+    let v : value d₁ ≡ n = ap value e₁ ∙ value-room k n h in
+    let l : length d₁ ≡ k = length-of k n d₁ e₁ in
+    rw (l, v) at e₂
 
 pub digits-exact : (k n : ℕ) (d : List ℕ) → d ≡ figures k n → AllDigits d
 digits-exact k n d e = rw e (digits-figures k n)
@@ -277,15 +291,18 @@ up-most step odd r h =
     (λ k. choice (λ (n : ℕ). n ≤ 1) (ltb step (2 * r)) (λ l. omega arith) (λ l. h))
 
 -- rounding adds less than a step
-units-below : (step n v : ℕ) → stepsOf (step * 10 ^ v) n * step ≤ n + step
-units-below step n v =
-    let s = step * 10 ^ v in
+pub steps-below : (step s n : ℕ) → step ≤ s → stepsOf s n * step ≤ n + step
+steps-below step s n h =
     let q = n / s in
     let u = up s (q % 2) (n % s) in
-    let a : step * 1 ≤ s = mul-le-mul-left step (power-pos v) in
-    let b : q * step ≤ q * s = mul-le-mul-left q (omega arith) in
+    let b : q * step ≤ q * s = mul-le-mul-left q h in
     let c : u * step ≤ 1 * step = mul-le-mul-right step (up-most s (q % 2) (n % s) (omega arith)) in
     omega (arith, div-add-mod' n s)
+
+units-below : (step n v : ℕ) → stepsOf (step * 10 ^ v) n * step ≤ n + step
+units-below step n v =
+    let a : step * 1 ≤ step * 10 ^ v = mul-le-mul-left step (power-pos v) in
+    steps-below step (step * 10 ^ v) n (omega arith)
 
 le-lt : (a b c : ℕ) → a ≤ b → b < c → a < c
 le-lt a b c h l = omega arith

@@ -1,14 +1,15 @@
-// Rounds a decimal value once, exactly, to the nearest multiple of a step: no machine integer holds
-// the value, so it stands in an area of decimal digits, the highest first.
+// Rounds a decimal value once, exactly, to the nearest multiple of a step, and writes its digits.
 //
 // The entry is round_into. specs/Nearest.antt says which multiple is meant, specs/Limits.antt the
-// bounds.
+// bounds. Two engines find it: the word engine where a machine integer holds the value, the digit
+// engine, which works in the area of decimal digits, the highest first, for every value.
 ghost use mathlib.Core.Path.{_≡_};
+ghost use mathlib.Core.Bool.{true};
 ghost use Prim.Native.Nat.{_+_, _*_, _-_, _/_, _%_, _^_, _≤_, _<_};
 ghost use lib.ListN.{length};
 ghost use Rattle.decimal.specs.Digits.{AllDigits, value, figures};
-ghost use Rattle.rounding.specs.Nearest.{up, stepsOf, exact};
-ghost use Rattle.rounding.specs.Limits.{width, maxInteger, maxPlaces, maxFraction, maxFactor, maxStep, within, rounded};
+ghost use Rattle.rounding.specs.Nearest.{up, stepsOf, unitsOf};
+ghost use Rattle.rounding.specs.Limits.{width, maxInteger, maxPlaces, maxFraction, maxFactor, maxStep, maxWord, within, inWord, rounded};
 
 const WIDTH: usize = 41;
 
@@ -21,6 +22,22 @@ const MAX_FRACTION: u64 = 1_000_000_000;
 const MAX_FACTOR: u64 = 1000;
 
 const MAX_STEP: u64 = 999_999;
+
+const MAX_WORD: u64 = 1_000_000_000_000_000_000;
+
+// The powers of ten from 10 ^ 0 on.
+const TENS: [u64; 10] = [
+    1,
+    10,
+    100,
+    1000,
+    10_000,
+    100_000,
+    1_000_000,
+    10_000_000,
+    100_000_000,
+    1_000_000_000,
+];
 
 // The value of a digit; 0 of a byte below `0`.
 fn digit(b: u8) -> u64
@@ -36,13 +53,16 @@ fn ten_to(k: usize) -> u64
     requires { ⌜ k ≤ maxPlaces ⌝ }
     ensures { λ r. ⌜ (r ≡ 10 ^ k) × (r ≤ 1000000000) ⌝ }
 {
-    let mut p: u64 = 1;
-    let mut i = 0;
-    while i < k {
-        p = 10 * p;
-        i += 1;
+    TENS[k]
+}
+
+fn less(a: usize, b: usize) -> usize
+    ensures { λ r. ⌜ r ≡ a - b ⌝ }
+{
+    if a < b {
+        return 0;
     }
-    p
+    a - b
 }
 
 // Multiplies the number of the digits d by m in place, and adds c.
@@ -66,7 +86,7 @@ fn divide(d: &mut [u8], step: u64) -> u64
     ensures { λ r. ⌜ (r ≡ value (now (d .entry)) % step) × (now (d .exit) ≡ figures (length (now (d .entry))) (value (now (d .entry)) / step)) ⌝ }
 {
     let mut r: u64 = 0;
-    let mut i = 0;
+    let mut i = decimal::scan::leading_zeros(d);
     while i < d.len() {
         let n = 10 * r + digit(d[i]);
         d[i] = 48 + (n / step) as u8;
@@ -124,26 +144,131 @@ fn is_within(step: u64, factor: u64, most: usize, i: u64, v: usize, f: u64) -> b
     f <= MAX_FRACTION
 }
 
-// Fills d with the digits of the exact value.
-fn write_exact(d: &mut [u8], factor: u64, most: usize, i: u64, v: usize, f: u64)
-    requires { ⌜ (width ≤ length (now d)) × (factor ≤ maxFactor) × (most ≤ maxPlaces) × (i ≤ maxInteger) × (v ≤ maxPlaces) × (f ≤ maxFraction) ⌝ }
-    ensures { λ _. ⌜ now (d .exit) ≡ figures (length (now (d .entry))) (exact factor most i v f) ⌝ }
+// Fills d with the digits of i * unit + f, at once where a word has room for it.
+fn write_whole(d: &mut [u8], unit: u64, i: u64, f: u64)
+    requires { ⌜ (width ≤ length (now d)) × (0 < unit) × (unit ≤ 1000000000) × (i ≤ maxInteger) × (f ≤ maxFraction) ⌝ }
+    ensures { λ _. ⌜ now (d .exit) ≡ figures (length (now (d .entry))) (i * unit + f) ⌝ }
 {
+    if i <= MAX_WORD / unit {
+        decimal::figure::write_figures(d, i * unit + f);
+        return;
+    }
     decimal::figure::write_figures(d, i);
-    scale(d, ten_to(v), f);
-    scale(d, factor * ten_to(most), 0);
+    scale(d, unit, f);
+}
+
+// Fills d with the digits of the value of i and of fraction digits of value f, in units of which
+// `unit` make one, each taken `rise` times.
+fn write_exact(d: &mut [u8], unit: u64, rise: u64, i: u64, f: u64)
+    requires { ⌜ (width ≤ length (now d)) × (0 < unit) × (unit ≤ 1000000000) × (rise ≤ 1000000000000) × (i ≤ maxInteger) × (f ≤ maxFraction) ⌝ }
+    ensures { λ _. ⌜ now (d .exit) ≡ figures (length (now (d .entry))) ((i * unit + f) * rise) ⌝ }
+{
+    write_whole(d, unit, i, f);
+    if rise == 1 {
+        return;
+    }
+    scale(d, rise, 0);
 }
 
 // Turns the number of the digits d into the nearest number of steps, each of which is `scaled` of its
-// units, times the step.
+// units, times the step. Nothing is left to do where every number is a step, or where a step is one
+// and none is added.
 fn round_by(d: &mut [u8], step: u64, scaled: u64)
-    requires { ⌜ (0 < step) × (step ≤ maxStep) × (0 < scaled) × (scaled ≤ 1000000000000000) × AllDigits (now d) ⌝ }
+    requires { ⌜ (0 < step) × (step ≤ maxStep) × (step ≤ scaled) × (scaled ≤ 1000000000000000) × AllDigits (now d) ⌝ }
     ensures { λ _. ⌜ now (d .exit) ≡ figures (length (now (d .entry))) (stepsOf scaled (value (now (d .entry))) * step) ⌝ }
 {
+    if scaled == 1 {
+        return;
+    }
     let r = divide(d, scaled);
     let odd = odd_of(d);
     let u = up_by(scaled, odd, r);
+    if step + u == 1 {
+        return;
+    }
     scale(d, step, u * step);
+}
+
+// Fills d with the digits of the rounded value, by the digit engine.
+fn round_digits(d: &mut [u8], step: u64, scaled: u64, unit: u64, rise: u64, i: u64, f: u64)
+    requires { ⌜ (width ≤ length (now d)) × (0 < unit) × (unit ≤ 1000000000) × (rise ≤ 1000000000000) × (i ≤ maxInteger) × (f ≤ maxFraction) × (0 < step) × (step ≤ maxStep) × (step ≤ scaled) × (scaled ≤ 1000000000000000) ⌝ }
+    ensures { λ _. ⌜ now (d .exit) ≡ figures (length (now (d .entry))) (stepsOf scaled ((i * unit + f) * rise) * step) ⌝ }
+{
+    write_exact(d, unit, rise, i, f);
+    round_by(d, step, scaled);
+}
+
+// What the operands are taken times: the factor, and what 10 ^ most has above 10 ^ v.
+fn rise_of(factor: u64, most: usize, v: usize) -> u64
+    requires { ⌜ (factor ≤ maxFactor) × (most ≤ maxPlaces) × (v ≤ maxPlaces) ⌝ }
+    ensures { λ r. ⌜ (r ≡ factor * 10 ^ (most - v)) × (10 ^ v * r ≤ 1000000000000) ⌝ }
+{
+    factor * ten_to(less(most, v))
+}
+
+// The step times what 10 ^ v has above 10 ^ most.
+fn scaled_of(step: u64, most: usize, v: usize) -> u64
+    requires { ⌜ (0 < step) × (step ≤ maxStep) × (v ≤ maxPlaces) ⌝ }
+    ensures { λ r. ⌜ (r ≡ step * 10 ^ (v - most)) × (step ≤ r) × (r ≤ 1000000000000000) ⌝ }
+{
+    step * ten_to(less(v, most))
+}
+
+// Whether the value that write_exact writes has room in a word.
+fn is_in_word(unit: u64, rise: u64, i: u64, f: u64) -> bool
+    requires { ⌜ unit * rise ≤ 1000000000000 ⌝ }
+    ensures { λ r. ⌜ r ≡ inWord unit rise i f ⌝ }
+{
+    if unit < f {
+        return false;
+    }
+    let whole = unit * rise;
+    if whole == 0 {
+        return false;
+    }
+    i < MAX_WORD / whole
+}
+
+// That value.
+fn word_of(unit: u64, rise: u64, i: u64, f: u64) -> u64
+    requires { ⌜ inWord unit rise i f ≡ true ⌝ }
+    ensures { λ r. ⌜ (r ≡ (i * unit + f) * rise) × (r ≤ maxWord) ⌝ }
+{
+    (i * unit + f) * rise
+}
+
+// The number of steps nearest to n.
+fn steps_of(step: u64, n: u64) -> u64
+    requires { ⌜ (0 < step) × (step ≤ 1000000000000000) × (n ≤ maxWord) ⌝ }
+    ensures { λ r. ⌜ r ≡ stepsOf step n ⌝ }
+{
+    let q = n / step;
+    q + up_by(step, q % 2, n % step)
+}
+
+// Fills d with the digits of the number of steps nearest to n, each of which is `scaled` of its
+// units, times the step.
+fn round_word(d: &mut [u8], step: u64, scaled: u64, n: u64)
+    requires { ⌜ (step ≤ scaled) × (0 < scaled) × (scaled ≤ 1000000000000000) × (n ≤ maxWord) ⌝ }
+    ensures { λ _. ⌜ now (d .exit) ≡ figures (length (now (d .entry))) (stepsOf scaled n * step) ⌝ }
+{
+    decimal::figure::write_figures(d, steps_of(scaled, n) * step);
+}
+
+// Rounds by the word engine where the value has room, else by the digit engine. The power of ten that
+// the exact value and the step share is left out of both.
+fn round_within(d: &mut [u8], step: u64, factor: u64, most: usize, i: u64, v: usize, f: u64)
+    requires { ⌜ (width ≤ length (now d)) × (within step factor most i v f ≡ true) ⌝ }
+    ensures { λ _. ⌜ now (d .exit) ≡ figures (length (now (d .entry))) (unitsOf step factor most i v f) ⌝ }
+{
+    let unit = ten_to(v);
+    let rise = rise_of(factor, most, v);
+    let scaled = scaled_of(step, most, v);
+    if is_in_word(unit, rise, i, f) {
+        round_word(d, step, scaled, word_of(unit, rise, i, f));
+        return;
+    }
+    round_digits(d, step, scaled, unit, rise, i, f);
 }
 
 // Fills d with the digits of the multiple of the step nearest to the value of i and of v fraction
@@ -166,8 +291,7 @@ pub fn round_into(
         return good;
     }
     if good {
-        write_exact(d, factor, most, i, v, f);
-        round_by(d, step, step * ten_to(v));
+        round_within(d, step, factor, most, i, v, f);
         return true;
     }
     false

@@ -1,7 +1,9 @@
--- `print::print_digits` learns the bytes needed from the writer on an area of one byte; then it refuses, or writes.
+-- `print::print_digits` lays the text out aside and learns the bytes needed; then it refuses, copies the text, or lays it out again.
+use mathlib.Core.Path.{_∙_}
 use Rattle.symbols.specs.Entries.{symbolIn, standardRecord}
+use Rattle.area.proofs.Pieces.{renamed}
 use Rattle.layout.specs.Text.{affixesOf, laidOut}
-use Rattle.print.proofs.Ready.{needed, short-answer, full-answer}
+use Rattle.print.proofs.Ready.{needed, laid-aside, short-answer, full-answer}
 use borrow.Author.Needs.{needs}
 use Rattle.print.proofs.print_digits.Statement.{statement}
 use Rattle.print.proofs.print_digits.Tie as tie
@@ -20,23 +22,48 @@ returns c =
     let s = c .before .before .before .before .before .before .before .before .before in
     let a = s .args in
     let t = laidOut (symbolIn (a .house .now) standardRecord) (a .pattern .now) (a .p) (affixesOf (a .p) (a .negative)) (a .digits .now) in
-    let w = rw (c .before .before .before .before .affixes-of .ensures) at (c .before .before .write-text .ensures) in
-    short-answer t (a .out .now) (c .before .before .write-text .result) (needed t _ _ (c .before .before .write-text .result) (s .pre) w) (c .if1 .taken)
+    let x = c .before .before .write-text in
+    let w = rw (c .before .before .before .before .affixes-of .ensures) at (x .ensures) in
+    short-answer t (a .out .now) (x .result) (needed t _ _ (x .result) (s .pre) w) (c .if1 .taken)
 
-write-text-requires-2 : tie.Need-write-text-requires-2
-write-text-requires-2 c κs = search needs
+slice-aggregate-upto : tie.Need-slice-aggregate-upto
+slice-aggregate-upto c = search needs
+
+upto-requires : tie.Need-upto-requires
+upto-requires c κs = search needs
+
+append-requires : tie.Need-append-requires
+append-requires c κs = search needs
 
 same-length : tie.Need-same-length
 same-length c = search needs
 
 returns-2 : tie.Need-returns-2
 returns-2 c =
-    let s = c .before .before .before .before .before .before .before .before .before .before .before .before .before in
+    let s = c .before .before .before .before .before .before .before .before .before .before .before .before .before .before .before .before in
     let a = s .args in
     let t = laidOut (symbolIn (a .house .now) standardRecord) (a .pattern .now) (a .p) (affixesOf (a .p) (a .negative)) (a .digits .now) in
-    let w = rw (c .before .before .before .before .before .before .before .before .affixes-of .ensures) at (c .before .before .before .before .before .before .write-text .ensures) in
-    let w₂ = rw (c .before .before .before .before .before .before .before .before .affixes-of .ensures) at (c .before .before .write-text2 .ensures) in
-    full-answer t (a .out .now) _ (c .before .before .before .before .before .before .write-text .result) _ (needed t _ _ (c .before .before .before .before .before .before .write-text .result) (s .pre) w) (c .before .before .before .before .if1 .left) w₂
+    let x = c .before .before .before .before .before .before .before .before .before .write-text in
+    let w = rw (c .before .before .before .before .before .before .before .before .before .before .before .affixes-of .ensures) at (x .ensures) in
+    let n = needed t _ _ (x .result) (s .pre) w in
+    let e = c .before .before .before .upto .ensures ∙ laid-aside t _ _ (x .result) n w (c .before .before .before .before .before .before .if2 .taken) in
+    full-answer t (a .out .now) _ (x .result) _ n (c .before .before .before .before .before .before .before .if1 .left) (renamed e (c .before .before .append .ensures))
+
+write-text-requires-2 : tie.Need-write-text-requires-2
+write-text-requires-2 c κs = search needs
+
+same-length-2 : tie.Need-same-length-2
+same-length-2 c = search needs
+
+returns-3 : tie.Need-returns-3
+returns-3 c =
+    let s = c .before .before .before .before .before .before .before .before .before .before .before .before .before .before in
+    let a = s .args in
+    let t = laidOut (symbolIn (a .house .now) standardRecord) (a .pattern .now) (a .p) (affixesOf (a .p) (a .negative)) (a .digits .now) in
+    let f = c .before .before .before .before .before .before .before .before .before .affixes-of .ensures in
+    let x = c .before .before .before .before .before .before .before .write-text in
+    let w = rw f at (x .ensures) in
+    full-answer t (a .out .now) _ (x .result) _ (needed t _ _ (x .result) (s .pre) w) (c .before .before .before .before .before .if1 .left) (rw f at (c .before .before .write-text2 .ensures))
 
 pub print-digits-spec : {M : Type 1} → statement M
 print-digits-spec =
@@ -46,6 +73,11 @@ print-digits-spec =
     slice-aggregate-write-text
     write-text-requires
     returns
-    write-text-requires-2
+    slice-aggregate-upto
+    upto-requires
+    append-requires
     same-length
-    returns-2)
+    returns-2
+    write-text-requires-2
+    same-length-2
+    returns-3)

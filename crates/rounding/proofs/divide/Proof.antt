@@ -1,4 +1,4 @@
--- `rounding::divide` goes through the digits from the first on. The invariant: the digits passed are those of the quotient of their number, and r is its remainder.
+-- `rounding::divide` goes through the digits from the first on. Leading zeros are passed at once. The invariant: the digits passed are those of the quotient of their number, and r is its remainder.
 use native.Mathlib.Omega.{arith}
 use Prim.Native.Nat.{_-_}
 use lib.ListN.{length, length-set}
@@ -13,8 +13,13 @@ Inv-loop d₀ step r₀ i₀ d r i = Dividing step d₀ d r i
 abbrev μ-loop : tie.MeasureT-loop
 μ-loop d₀ step r₀ i₀ d r i = length d - i
 
+leading-zeros-requires : tie.Need-leading-zeros-requires Inv-loop μ-loop
+leading-zeros-requires c κs = search needs
+
 loop-holds : tie.Need-loop-holds Inv-loop μ-loop
-loop-holds c = divide-start (c .before .args .step) (c .before .args .d .now) (c .before .pre .0)
+loop-holds c =
+    let s = c .before .before .before in
+    divide-start (s .args .step) (c .leading-zeros .result) (s .args .d .now) (s .pre .0) (c .leading-zeros .ensures .0)
 
 mul-n : tie.Need-mul-n Inv-loop μ-loop
 mul-n c = search needs
@@ -34,13 +39,13 @@ div-d c = search needs
 cast-d : tie.Need-cast-d Inv-loop μ-loop
 cast-d c =
     let l = c .before .before .before .loop in
-    let s = c .before .before .before .before .before in
+    let s = c .before .before .before .before .before .before .before in
     omega (arith, quotient-nine (s .args .step) (s .args .d .now) (l .d) (l .r) (l .i) (l .inv) (s .pre .2) (c .before .before .loop-test .taken) (c .digit .result) (c .digit .ensures .0))
 
 add-d : tie.Need-add-d Inv-loop μ-loop
 add-d c =
     let l = c .before .before .before .loop in
-    let s = c .before .before .before .before .before in
+    let s = c .before .before .before .before .before .before .before in
     omega (arith, quotient-nine (s .args .step) (s .args .d .now) (l .d) (l .r) (l .i) (l .inv) (s .pre .2) (c .before .before .loop-test .taken) (c .digit .result) (c .digit .ensures .0))
 
 slice-write-d : tie.Need-slice-write-d Inv-loop μ-loop
@@ -58,7 +63,7 @@ loop-less c = simp length-set (omega arith)
 loop-again : tie.Need-loop-again Inv-loop μ-loop
 loop-again c =
     let l = c .before .before .before .loop in
-    let s = c .before .before .before .before .before in
+    let s = c .before .before .before .before .before .before .before in
     divide-again (s .args .step) (s .args .d .now) (l .d) (l .r) (l .i) (l .inv) (s .pre .2) (c .before .before .loop-test .taken) (c .digit .result) (c .digit .ensures .0)
 
 same-length : tie.Need-same-length Inv-loop μ-loop
@@ -67,7 +72,7 @@ same-length c = c .before .loop .inv .size
 returns : tie.Need-returns Inv-loop μ-loop
 returns c =
     let l = c .before .loop in
-    let a = c .before .before .before .args in
+    let a = c .before .before .before .before .before .args in
     divide-done (a .step) (a .d .now) (l .d) (l .r) (l .i) (l .inv) (c .loop-test .left)
 
 pub divide-spec : {M : Type 1} → statement M
@@ -76,6 +81,7 @@ divide-spec =
     (tie.spec
     Inv-loop
     μ-loop
+    leading-zeros-requires
     loop-holds
     mul-n
     slice-read-digit

@@ -1,51 +1,43 @@
--- `rounding::write_exact` writes the integer, multiplies and adds the fraction, and multiplies by the factor and ten to the fraction places.
+-- `rounding::write_exact` writes the number and multiplies it, unless it is to be taken once.
 use native.Mathlib.Omega.{arith}
-use native.Mathlib.Nat.{mul-le-mul}
-use Rattle.rounding.proofs.Arithmetic.{exact-written}
+use mathlib.Core.Path.{_≡_, ap, _∙_}
+use Prim.Native.Nat.{_+_, _*_}
 use lib.ListN.{length}
+use Rattle.decimal.specs.Digits.{figures}
+use Rattle.rounding.proofs.Arithmetic.{scaled-written, whole-room}
 use borrow.Author.Needs.{needs}
 use Rattle.rounding.proofs.write_exact.Statement.{statement}
 use Rattle.rounding.proofs.write_exact.Tie as tie
 
-write-figures-requires : tie.Need-write-figures-requires
-write-figures-requires c κs = search needs
-
-ten-to-requires : tie.Need-ten-to-requires
-ten-to-requires c κs = search needs
-
-scale-requires : tie.Need-scale-requires
-scale-requires c κs = search needs
-
-ten-to-requires-2 : tie.Need-ten-to-requires-2
-ten-to-requires-2 c κs = search needs
-
-mul-scale : tie.Need-mul-scale
-mul-scale c = omega (arith, mul-le-mul (c .before .before .before .before .before .before .before .before .before .before .before .before .pre .1) (c .ten-to2 .ensures .1))
-
-scale-requires-2 : tie.Need-scale-requires-2
-scale-requires-2 c κs = (omega (arith, mul-le-mul (c .before .before .before .before .before .before .before .before .before .before .before .before .pre .1) (c .ten-to2 .ensures .1)), omega arith)
+write-whole-requires : tie.Need-write-whole-requires
+write-whole-requires c κs = search needs
 
 same-length : tie.Need-same-length
 same-length c = search needs
 
 returns : tie.Need-returns
 returns c =
-    let a = c .before .before .before .before .before .before .before .before .before .before .before .before .before .before .before .args in
-    let p = c .before .before .before .before .before .before .before .before .before .before .before .before .before .before .before .pre in
-    exact-written (length (a .d .now)) (a .i) (a .v) (a .f) (a .factor) (a .most) (c .before .before .before .before .before .before .before .before .ten-to .result) (c .before .before .before .ten-to2 .result)
-    (c .before .before .before .before .before .before .before .before .before .before .before .before .write-figures .last .0) (c .before .before .before .before .before .before .before .scale .last .0) (c .before .before .scale2 .last .0)
-    (p .0) (p .3) (p .5) (c .before .before .before .before .before .before .before .before .ten-to .ensures .0) (c .before .before .before .before .before .before .before .before .ten-to .ensures .1) (c .before .before .before .ten-to2 .ensures .0)
-    (c .before .before .before .before .before .before .before .before .before .before .before .before .write-figures .ensures) (c .before .before .before .before .before .before .before .scale .ensures) (c .before .before .scale2 .ensures)
+    let a = c .before .before .before .before .before .before .args in
+    let n = a .i * a .unit + a .f in
+    let e : n ≡ n * a .rise = rw (c .if1 .taken) (omega arith) in
+    c .before .before .before .write-whole .ensures ∙ ap (figures (length (a .d .now))) e
+
+scale-requires : tie.Need-scale-requires
+scale-requires c κs = search needs
+
+same-length-2 : tie.Need-same-length-2
+same-length-2 c = search needs
+
+returns-2 : tie.Need-returns-2
+returns-2 c =
+    let s = c .before .before .before .before .before .before .before .before .before .before in
+    let a = s .args in
+    let k = length (a .d .now) in
+    let n = a .i * a .unit + a .f in
+    let w = c .before .before .before .before .before .before .before .write-whole in
+    let e : n * a .rise + 0 ≡ n * a .rise = omega arith in
+    scaled-written k n (a .rise) 0 (w .last .0) (c .before .before .scale .last .0) (whole-room k (a .unit) (a .i) (a .f) (s .pre .0) (s .pre .2) (s .pre .4) (s .pre .5)) (w .ensures) (c .before .before .scale .ensures)
+    ∙ ap (figures k) e
 
 pub write-exact-spec : {M : Type 1} → statement M
-write-exact-spec =
-    tie.close
-    (tie.spec
-    write-figures-requires
-    ten-to-requires
-    scale-requires
-    ten-to-requires-2
-    mul-scale
-    scale-requires-2
-    same-length
-    returns)
+write-exact-spec = tie.close (tie.spec write-whole-requires same-length returns scale-requires same-length-2 returns-2)
