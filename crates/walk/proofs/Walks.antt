@@ -10,7 +10,7 @@ use Rattle.decimal.proofs.Choices.{tested, not-both}
 use Rattle.grammar.specs.Grammar.{Text}
 use Rattle.phase.specs.Next.{nextPhase, phaseNumber}
 use Rattle.phase.specs.declared.Phase.{Phase}
-use Rattle.walk.specs.Steps.{capped, valueAt, held, isClosing, closesAt, countsAfter, keyAfter, currentAfter, rowAt, markAfter, walkAfter}
+use Rattle.walk.specs.Steps.{capped, valueAt, held, isClosing, closesAt, countsAfter, keyAfter, currentAfter, rowAt, markAfter, walkWith}
 use Rattle.walk.specs.declared.Counts.{Counts}
 use Rattle.walk.specs.declared.Closes.{Closes}
 use Rattle.walk.specs.declared.Current.{Current}
@@ -42,13 +42,18 @@ counts-same c false x h = go (x .relation) (x .clause) (x .rule) h
 pub closes-none : (k : ℕ) (t : Text) → either (eqb k 2) (isClosing k) ≡ false → record { relation = false; clause = false; rule = false } ≡ closesAt k t
 closes-none k t h = tested (eqb k 2) (λ a. not-both (rw a) h) (λ a. let b : isClosing k ≡ false = rw a at h in rw (a, b))
 
-pub walk-is : (t : Text) (at : ℕ) (keys : List ℕ) (w : Walk) {k v key row : ℕ} {again : Bool} {q : Phase} {x : Closes} {d : Counts} {n : Current} {f : Mark}
-    → k ≡ phaseNumber (w .phase) → v ≡ valueAt k t → key ≡ keyAfter k t (w .current .key)
+pub walk-is : (t : Text) (at : ℕ) (keys : List ℕ) (w : Walk) (v : ℕ) (x : Closes) {k key row : ℕ} {again : Bool} {q : Phase} {d : Counts} {n : Current} {f : Mark}
+    → k ≡ phaseNumber (w .phase) → key ≡ keyAfter k t (w .current .key)
     → again ≡ both (eqb k 0) (held key (take (w .counts .rules) keys)) → row ≡ rowAt k key again v (w .counts) (w .current .low)
-    → q ≡ nextPhase (w .phase) (w .current .other) t → x ≡ closesAt k t → d ≡ countsAfter (w .counts) (eqb k 7) x
+    → q ≡ nextPhase (w .phase) (w .current .other) t → d ≡ countsAfter (w .counts) (eqb k 7) x
     → n ≡ currentAfter (w .current) k t v key → f ≡ markAfter (w .mark) k row at
-    → record { phase = q; counts = d; current = n; mark = f } ≡ walkAfter t at keys w
-walk-is t at keys w hk hv hy ha hr hq hx hd hn hf =
+    → record { phase = q; counts = d; current = n; mark = f } ≡ walkWith t at keys w v x
+walk-is t at keys w v x hk hy ha hr hq hd hn hf = rw (hq, hd, hn, hf, hr, ha, hy, hk)
+
+-- the value that only a phase with a number next has serves as well
+pub walk-value : (t : Text) (at : ℕ) (keys : List ℕ) (w : Walk) (x : Closes)
+    → walkWith t at keys w (valueAt (phaseNumber (w .phase)) t) x ≡ walkWith t at keys w (capped t) x
+walk-value t at keys w x =
     let k = phaseNumber (w .phase) in
     let y = keyAfter k t (w .current .key) in
-    rw (hq, hd, hn, hf, hr, ha, hx, hy, hv, hk, row-value k y (both (eqb k 0) (held y (take (w .counts .rules) keys))) t (w .counts) (w .current .low), current-value (w .current) k t y)
+    rw (row-value k y (both (eqb k 0) (held y (take (w .counts .rules) keys))) t (w .counts) (w .current .low), current-value (w .current) k t y)

@@ -127,14 +127,17 @@ markAfter m k row at =
       place = if eqb (m .row) 0 then at else m .place;
     }
 
-abbrev pub walkAfter : Text → ℕ → List ℕ → Walk → Walk
-walkAfter t at keys w =
+-- the walk behind a token that has this value and closes so much
+abbrev pub walkWith : Text → ℕ → List ℕ → Walk → ℕ → Closes → Walk
+walkWith t at keys w v x =
     let k = phaseNumber (w .phase) in
-    let v = capped t in
     let key = keyAfter k t (w .current .key) in
     record {
       phase = nextPhase (w .phase) (w .current .other) t;
-      counts = countsAfter (w .counts) (eqb k 7) (closesAt k t);
+      counts = countsAfter (w .counts) (eqb k 7) x;
       current = currentAfter (w .current) k t v key;
       mark = markAfter (w .mark) k (rowAt k key (both (eqb k 0) (held key (take (w .counts .rules) keys))) v (w .counts) (w .current .low)) at;
     }
+
+abbrev pub walkAfter : Text → ℕ → List ℕ → Walk → Walk
+walkAfter t at keys w = walkWith t at keys w (capped t) (closesAt (phaseNumber (w .phase)) t)

@@ -9,7 +9,7 @@ ghost use Rattle.decimal.specs.Choice.{if_then_else_, both, either};
 ghost use Rattle.token.specs.Spelling.{same};
 ghost use Rattle.token.specs.Token.{differ};
 ghost use Rattle.grammar.specs.Limits.{isModulus};
-ghost use Rattle.walk.specs.Steps.{capped, valueAt, keywordNumber, held, moreOf, moreIf, zeroIf, isClosing, closesAt, countsAfter, keyAfter, currentAfter, nameRow, operandRow, valueRow, upperRow, rowAt, markAfter, walkAfter};
+ghost use Rattle.walk.specs.Steps.{capped, valueAt, keywordNumber, held, moreOf, moreIf, zeroIf, isClosing, closesAt, countsAfter, keyAfter, currentAfter, nameRow, operandRow, valueRow, upperRow, rowAt, markAfter, walkWith};
 use decimal::cut::upto;
 use decimal::value::value_of;
 use phase::Phase;
@@ -369,20 +369,20 @@ fn mark_after(m: Mark, k: u8, row: u8, at: usize) -> Mark
     }
 }
 
-// The walk behind the token t at a place; `keys`: the keyword numbers of the rules so far.
-pub fn walk_after(t: &[u8], at: usize, keys: &[u8], w: Walk) -> Walk
-    ensures { λ r. ⌜ r ≡ walkAfter (now (t .entry)) at (now (keys .entry)) w ⌝ }
+// The walk behind the token t at a place, where its value is v and it closes x; `keys`: the keyword numbers
+// of the rules so far.
+pub fn walk_after(t: &[u8], at: usize, keys: &[u8], w: Walk, v: u32, x: Closes) -> Walk
+    ensures { λ r. ⌜ r ≡ walkWith (now (t .entry)) at (now (keys .entry)) w v x ⌝ }
 {
     let p = w.phase;
     let c = w.counts;
     let o = w.current;
     let m = w.mark;
     let k = number(p);
-    let v = value_at(k, t);
     let key = key_after(k, t, o.key);
     let row = row_at(k, key, repeated(k, keys, c.rules, key), v, c, o.low);
     let q = next_phase(p, o.other, t);
-    let d = counts_after(c, k == 7, closed_by(k, t));
+    let d = counts_after(c, k == 7, x);
     let n = current_after(o, k, t, v, key);
     let f = mark_after(m, k, row, at);
     Walk {
