@@ -5,13 +5,14 @@ use mathlib.Core.List.{List, []}
 use Prim.Native.Nat.{ℕ, _+_, _-_, _≤_, _<_, max}
 use native.Mathlib.Omega.{arith}
 use lib.Dec.{eqb, ltb}
-use lib.ListN.{length, take, drop, drop-of-length-le, length-drop}
+use lib.ListN.{length, take, drop, replicate, drop-of-length-le, length-drop, length-replicate}
 use lib.Seq.{drop-drop}
 use borrow.Author.Tests.{lt-ltb, le-ltb, ltb-true, ltb-false}
 use Rattle.decimal.specs.Choice.{if_then_else_}
-use Rattle.decimal.proofs.Choices.{tested}
+use Rattle.decimal.proofs.Choices.{choice, tested}
 use Rattle.token.specs.Token.{whiteLen, tokenLen, pieceLen, isWhite, Token, tokens}
 use Rattle.token.proofs.Pieces.{piece, pieced, tokens-turn, no-tokens}
+use Rattle.grammar.specs.Limits.{maxBytes}
 use Rattle.grammar.specs.Grammar.{Text}
 use Rattle.phase.specs.Next.{phaseNumber}
 use Rattle.walk.specs.Steps.{capped, valueAt, closesAt, countsAfter, walkWith}
@@ -20,7 +21,7 @@ use Rattle.walk.specs.declared.Closes.{Closes}
 use Rattle.walk.specs.declared.Current.{Current}
 use Rattle.walk.specs.declared.Walk.{Walk}
 use Rattle.walk.proofs.Walks.{walk-value}
-use Rattle.pack.specs.Board.{Arrays, arraysOf, setIf, filled, Board, tokenAt, boardAfter, boards, startWalk, Skipped}
+use Rattle.pack.specs.Board.{Arrays, arraysOf, setIf, filled, Board, tokenAt, boardAfter, boards, startWalk, Skipped, within4096, Sized}
 
 pub filled-is : (k v : ℕ) (x : Closes) (c d : Counts) (o : Current) (a : Arrays) {low high operand modulus ranges relations keyword clauses : List ℕ} {negated : List Bool}
     → low ≡ setIf (eqb k 7) (a .low) (c .ranges) v
@@ -186,4 +187,77 @@ onward b e s end at m next he hw hm h k =
       rest = skipped s end (at + m) next e k ∙ z .rest;
       more = omega (arith, z .some, k .onward);
       within = omega (arith, z .within, k .bound);
+    }
+
+-- ---- the loop of `read_pack`: it stands at a token or at the end, and what is ahead gives what the first arrays give with the whole text
+
+pub record Stands (s end : Text) (first : Arrays) (at : ℕ) (w : Walk) (a : Arrays) : Type 0 where
+  pub within : at ≤ length s + 1
+  pub none : whiteLen (drop at s) ≡ 0
+  pub rest : ahead s end at (record { walk = w; arrays = a }) ≡ boardAfter (boards (record { walk = startWalk; arrays = first }) (tokens 0 s)) end (length s)
+
+pub stands-first : (s end : Text) (a : Arrays) (at : ℕ) (w : Walk) → w ≡ startWalk → Skipped s 0 at → Stands s end a at w a
+stands-first s end a at w h k =
+    record {
+      within = omega (arith, k .bound);
+      none = k .none;
+      rest = skipped s end 0 at (record { walk = w; arrays = a }) k ∙ starting s end a w h;
+    }
+
+pub record Takes (s end : Text) (first : Arrays) (at next : ℕ) (w : Walk) (a : Arrays) : Type 0 where
+  pub stands : Stands s end first next w a
+  pub more : at < next
+
+pub token-ends : (s : Text) (at m : ℕ) → whiteLen (drop at s) ≡ 0 → m ≡ tokenLen (drop at s) → at ≤ length s → at + m ≤ length s + 1
+token-ends s at m hw hm h =
+    let b : Board = record { walk = startWalk; arrays = arraysOf [] [] [] [] [] [] [] [] [] } in
+    step b (boardAfter b (tokenAt s [] at m) at) s [] at 0 m refl (sym hw) hm h .within
+
+pub takes : {s end : Text} {first a : Arrays} {at : ℕ} {w : Walk} → Stands s end first at w a → (t : Text) (m next : ℕ)
+    {k v less : ℕ} {x : Closes} {q : Walk} {low high twice operand modulus ranges relations keyword clauses : List ℕ} {negated : List Bool}
+    → t ≡ tokenAt s end at m → m ≡ tokenLen (drop at s) → at ≤ length s → Skipped s (at + m) next
+    → k ≡ phaseNumber (w .phase) → v ≡ valueAt k t → x ≡ closesAt k t → q ≡ walkWith t at (a .keyword) w v x → less ≡ w .counts .ranges - 1
+    → low ≡ setIf (eqb k 7) (a .low) (w .counts .ranges) v
+    → high ≡ setIf (eqb k 7) (a .high) (w .counts .ranges) v
+    → twice ≡ setIf (eqb k 9) high less v
+    → operand ≡ setIf (x .relation) (a .operand) (w .counts .relations) (w .current .operand)
+    → modulus ≡ setIf (x .relation) (a .modulus) (w .counts .relations) (w .current .modulus)
+    → negated ≡ setIf (x .relation) (a .negated) (w .counts .relations) (w .current .negated)
+    → ranges ≡ setIf (x .relation) (a .ranges) (w .counts .relations) (w .counts .ranges)
+    → relations ≡ setIf (x .clause) (a .relations) (w .counts .clauses) (q .counts .relations)
+    → keyword ≡ setIf (x .rule) (a .keyword) (w .counts .rules) (w .current .key)
+    → clauses ≡ setIf (x .rule) (a .clauses) (w .counts .rules) (q .counts .clauses)
+    → Takes s end first at next q (arraysOf low twice operand modulus negated ranges relations keyword clauses)
+takes {s} {end} {first} {a} {at} {w} i t m next {k} {v} {less} {x} {q} ht hm h hs hk hv hx hq hl e1 e2 e3 e4 e5 e6 e7 e8 e9 e10 =
+    let b : Board = record { walk = w; arrays = a } in
+    let f = filled-is k v x (w .counts) (q .counts) (w .current) a e1 (e3 ∙ rw (e2, hl)) e4 e5 e6 e7 e8 e9 e10 in
+    let g = board-is b t at hk hv hx hq f in
+    let z = onward b _ s end at m next (g ∙ ap (λ (y : Text). boardAfter b y at) ht) (i .none) hm h hs in
+    record { stands = record { within = z .within; none = hs .none; rest = z .rest ∙ i .rest }; more = z .more }
+
+pub stands-last : {s end : Text} {first a : Arrays} {at : ℕ} {w : Walk} → Stands s end first at w a → length s < at
+    → record { walk = w; arrays = a } ≡ boardAfter (boards (record { walk = startWalk; arrays = first }) (tokens 0 s)) end (length s)
+stands-last {s} {end} {first} {a} {at} {w} i h = rw (lt-ltb (length s) at h) at (i .rest)
+
+pub within-le : (text s : Text) → s ≡ within4096 text → length s ≤ 4096
+within-le text s e = subst (λ (l : Text). length l ≤ 4096) (sym e) (choice (λ (l : Text). length l ≤ 4096) (ltb maxBytes (length text)) (λ _. omega arith) (λ k. ltb-false maxBytes (length text) k))
+
+-- the arrays as they are made
+abbrev pub made : Arrays
+made =
+    arraysOf (replicate 2048 0) (replicate 2048 0) (replicate 320 0) (replicate 320 0) (replicate 320 false) (replicate 320 0) (replicate 40 0)
+    (replicate 6 0) (replicate 6 0)
+
+pub made-sized : Sized made
+made-sized =
+    record {
+      low = length-replicate {A = ℕ} 2048 0;
+      high = length-replicate {A = ℕ} 2048 0;
+      operand = length-replicate {A = ℕ} 320 0;
+      modulus = length-replicate {A = ℕ} 320 0;
+      negated = length-replicate {A = Bool} 320 false;
+      ranges = length-replicate {A = ℕ} 320 0;
+      relations = length-replicate {A = ℕ} 40 0;
+      keyword = length-replicate {A = ℕ} 6 0;
+      clauses = length-replicate {A = ℕ} 6 0;
     }
