@@ -144,8 +144,8 @@ skip-more s from at n k h hn some =
     let p = piece u l in
     let m : n ≤ length u = subst (λ (x : ℕ). x ≤ length u) q (p .1) in
     let turned : tokens at u ≡ tokens (at + n) (drop n u) =
-        tokens-turn at u l ∙ blank-piece (isWhite u) at (take (pieceLen u) u) (tokens (at + pieceLen u) (drop (pieceLen u) u)) w
-        ∙ ap (λ (x : ℕ). tokens (at + x) (drop x u)) q in
+    tokens-turn at u l ∙ blank-piece (isWhite u) at (take (pieceLen u) u) (tokens (at + pieceLen u) (drop (pieceLen u) u)) w
+    ∙ ap (λ (x : ℕ). tokens (at + x) (drop x u)) q in
     let o = k .onward in
     let b : at + n ≤ length s = omega (arith, length-drop at s, m) in
     record {

@@ -388,7 +388,8 @@ told a e u s {v} {o} z q hv ho =
     (ap (λ (x : Numbers). verdictAt (x .row) (x .place)) h ∙ sym (ap verdictOf r), ap (λ (x : Numbers). heldRules (packOf e (x .count))) h ∙ sym (ap rulesOf r)))
     (λ k. let f : record { walk = u; arrays = e } ≡ lastBoard a s = rw k at q in
     let h : o ≡ outcomeOf (judged u) (u .counts .rules) = ho ∙ ap (λ (x : Verdict). outcomeOf x (u .counts .rules)) (rw k at hv) in
-    let w = answer a s z (ltb-false maxBytes (length s) k) in
-    (ap (λ (x : Numbers). verdictAt (x .row) (x .place)) h ∙ judged-told u (u .counts .rules) ∙ ap (λ (x : Board). judged (x .walk)) f ∙ w .0,
-    ap (λ (x : Numbers). heldRules (packOf e (x .count))) h ∙ ap (λ (n : ℕ). heldRules (packOf e n)) (counts-as (judged u) (u .counts .rules))
-    ∙ ap (λ (x : Board). heldRules (packOf (x .arrays) (counted (judged (x .walk)) (x .walk .counts .rules)))) f ∙ w .1))
+    let w = answer a s z (ltb-false maxBytes (length s) k) in (
+      ap (λ (x : Numbers). verdictAt (x .row) (x .place)) h ∙ judged-told u (u .counts .rules) ∙ ap (λ (x : Board). judged (x .walk)) f ∙ w .0,
+      ap (λ (x : Numbers). heldRules (packOf e (x .count))) h ∙ ap (λ (n : ℕ). heldRules (packOf e n)) (counts-as (judged u) (u .counts .rules))
+          ∙ ap (λ (x : Board). heldRules (packOf (x .arrays) (counted (judged (x .walk)) (x .walk .counts .rules)))) f ∙ w .1,
+    ))

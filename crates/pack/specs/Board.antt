@@ -11,6 +11,7 @@ use Rattle.answer.specs.declared.PackRow.the-variants.{NotAPack}
 use Rattle.answer.specs.Table.{numberOf}
 use Rattle.answer.specs.declared.Refusal.{Refusal}
 use Rattle.answer.specs.declared.Refusal.the-variants.{Number, PackTooLong, Pack as OfPack, TwoRulesMet, RulesClash, Pattern, Symbols, PrintedExponent, AreaTooShort}
+use Rattle.rules.specs.Held.{lent}
 use Rattle.rules.specs.declared.Pack.{Pack}
 use Rattle.token.specs.Token.{whiteLen, Token, tokens}
 use Rattle.grammar.specs.Limits.{maxBytes}
@@ -168,20 +169,6 @@ pub record Sized (a : Arrays) : Type 0 where
 abbrev pub lastBoard : Arrays → Text → Board
 lastBoard a s = boardAfter (boards (record { walk = startWalk; arrays = a }) (tokens 0 s)) semi (length s)
 
--- a pack of n rules that is read
+-- the pack of n rules in these arrays
 abbrev pub packOf : Arrays → ℕ → Pack
-packOf a n =
-    record {
-      low = a .low;
-      high = a .high;
-      operand = a .operand;
-      modulus = a .modulus;
-      negated = a .negated;
-      ranges = a .ranges;
-      relations = a .relations;
-      keyword = a .keyword;
-      clauses = a .clauses;
-      count = n;
-      row = 0;
-      place = 0;
-    }
+packOf a n = lent (a .low) (a .high) (a .operand) (a .modulus) (a .negated) (a .ranges) (a .relations) (a .keyword) (a .clauses) n

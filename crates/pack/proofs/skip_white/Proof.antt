@@ -23,12 +23,12 @@ returns : tie.Need-returns Inv-loop μ-loop
 returns c = skip-end _ _ _ (c .before .before .before .loop .inv) (c .before .white-len .ensures) (c .if1 .taken)
 
 add-at : tie.Need-add-at Inv-loop μ-loop
-add-at c = 
+add-at c =
     let z = skip-more _ _ _ _ (c .before .before .before .loop .inv) (c .before .before .loop-test .taken) (c .before .white-len .ensures) (c .if1 .left) in
     omega (arith, z .within)
 
 loop-less : tie.Need-loop-less Inv-loop μ-loop
-loop-less c = 
+loop-less c =
     let z = skip-more _ _ _ _ (c .before .before .before .loop .inv) (c .before .before .loop-test .taken) (c .before .white-len .ensures) (c .if1 .left) in
     omega (arith, z .some, z .within)
 
