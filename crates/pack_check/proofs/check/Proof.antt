@@ -11,6 +11,9 @@ use Rattle.pack_check.proofs.check.Tie as tie
 read-pack-requires : tie.Need-read-pack-requires
 read-pack-requires c κs = search needs
 
+verdict-of-requires : tie.Need-verdict-of-requires
+verdict-of-requires c κs = search needs
+
 enum-told : tie.Need-enum-told
 enum-told c = search needs
 
@@ -41,6 +44,7 @@ check-spec =
     tie.close
     (tie.spec
     read-pack-requires
+    verdict-of-requires
     enum-told
     check-requires
     checked-by-requires
