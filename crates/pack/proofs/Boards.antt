@@ -15,11 +15,12 @@ use Rattle.token.proofs.Pieces.{piece, pieced, tokens-turn, no-tokens}
 use Rattle.grammar.specs.Limits.{maxBytes}
 use Rattle.grammar.specs.Grammar.{Text}
 use Rattle.phase.specs.Next.{phaseNumber}
-use Rattle.walk.specs.Steps.{capped, valueAt, closesAt, countsAfter, walkWith}
+use Rattle.walk.specs.Steps.{capped, valueAt, closesAt, countsAfter, walkWith, stepAfter}
 use Rattle.walk.specs.declared.Counts.{Counts}
 use Rattle.walk.specs.declared.Closes.{Closes}
 use Rattle.walk.specs.declared.Current.{Current}
 use Rattle.walk.specs.declared.Walk.{Walk}
+use Rattle.walk.specs.declared.Step.{Step}
 use Rattle.walk.proofs.Walks.{walk-value}
 use Rattle.pack.specs.Board.{Arrays, arraysOf, setIf, filled, Board, tokenAt, boardAfter, boards, startWalk, Skipped, within4096, Sized}
 
@@ -214,26 +215,41 @@ token-ends s at m hw hm h =
     step b (boardAfter b (tokenAt s [] at m) at) s [] at 0 m refl (sym hw) hm h .within
 
 pub takes : {s end : Text} {first a : Arrays} {at : ℕ} {w : Walk} → Stands s end first at w a → (t : Text) (m next : ℕ)
-    {k v less : ℕ} {x : Closes} {q : Walk} {low high twice operand modulus ranges relations keyword clauses : List ℕ} {negated : List Bool}
-    → t ≡ tokenAt s end at m → m ≡ tokenLen (drop at s) → at ≤ length s → Skipped s (at + m) next
-    → k ≡ phaseNumber (w .phase) → v ≡ valueAt k t → x ≡ closesAt k t → q ≡ walkWith t at (a .keyword) w v x → less ≡ w .counts .ranges - 1
-    → low ≡ setIf (eqb k 7) (a .low) (w .counts .ranges) v
-    → high ≡ setIf (eqb k 7) (a .high) (w .counts .ranges) v
-    → twice ≡ setIf (eqb k 9) high less v
-    → operand ≡ setIf (x .relation) (a .operand) (w .counts .relations) (w .current .operand)
-    → modulus ≡ setIf (x .relation) (a .modulus) (w .counts .relations) (w .current .modulus)
-    → negated ≡ setIf (x .relation) (a .negated) (w .counts .relations) (w .current .negated)
-    → ranges ≡ setIf (x .relation) (a .ranges) (w .counts .relations) (w .counts .ranges)
-    → relations ≡ setIf (x .clause) (a .relations) (w .counts .clauses) (q .counts .relations)
-    → keyword ≡ setIf (x .rule) (a .keyword) (w .counts .rules) (w .current .key)
-    → clauses ≡ setIf (x .rule) (a .clauses) (w .counts .rules) (q .counts .clauses)
-    → Takes s end first at next q (arraysOf low twice operand modulus negated ranges relations keyword clauses)
-takes {s} {end} {first} {a} {at} {w} i t m next {k} {v} {less} {x} {q} ht hm h hs hk hv hx hq hl e1 e2 e3 e4 e5 e6 e7 e8 e9 e10 =
+    {less : ℕ} {low high twice operand modulus ranges relations keyword clauses : List ℕ} {negated : List Bool}
+    → t ≡ tokenAt s end at m → m ≡ tokenLen (drop at s) → at ≤ length s → Skipped s (at + m) next → less ≡ w .counts .ranges - 1
+    → (g : Step) → g ≡ stepAfter t at (a .keyword) w
+    → low ≡ setIf (g .starts) (a .low) (w .counts .ranges) (g .value)
+    → high ≡ setIf (g .starts) (a .high) (w .counts .ranges) (g .value)
+    → twice ≡ setIf (g .ends) high less (g .value)
+    → operand ≡ setIf (g .closes .relation) (a .operand) (w .counts .relations) (w .current .operand)
+    → modulus ≡ setIf (g .closes .relation) (a .modulus) (w .counts .relations) (w .current .modulus)
+    → negated ≡ setIf (g .closes .relation) (a .negated) (w .counts .relations) (w .current .negated)
+    → ranges ≡ setIf (g .closes .relation) (a .ranges) (w .counts .relations) (w .counts .ranges)
+    → relations ≡ setIf (g .closes .clause) (a .relations) (w .counts .clauses) (g .walk .counts .relations)
+    → keyword ≡ setIf (g .closes .rule) (a .keyword) (w .counts .rules) (w .current .key)
+    → clauses ≡ setIf (g .closes .rule) (a .clauses) (w .counts .rules) (g .walk .counts .clauses)
+    → Takes s end first at next (g .walk) (arraysOf low twice operand modulus negated ranges relations keyword clauses)
+takes {s} {end} {first} {a} {at} {w} i t m next {less} {low} {high} {twice} {operand} {modulus} {ranges} {relations} {keyword} {clauses} {negated} ht hm h hs hl g hg e1 e2 e3 e4 e5 e6 e7 e8 e9 e10 =
     let b : Board = record { walk = w; arrays = a } in
-    let f = filled-is k v x (w .counts) (q .counts) (w .current) a e1 (e3 ∙ rw (e2, hl)) e4 e5 e6 e7 e8 e9 e10 in
-    let g = board-is b t at hk hv hx hq f in
-    let z = onward b _ s end at m next (g ∙ ap (λ (y : Text). boardAfter b y at) ht) (i .none) hm h hs in
-    record { stands = record { within = z .within; none = hs .none; rest = z .rest ∙ i .rest }; more = z .more }
+    let k = phaseNumber (w .phase) in
+    let c = w .counts in
+    let o = w .current in
+    let f =
+    filled-is k (valueAt k t) (closesAt k t) c (stepAfter t at (a .keyword) w .walk .counts) o a
+    (e1 ∙ ap (λ (y : Step). setIf (y .starts) (a .low) (c .ranges) (y .value)) hg)
+    (e3 ∙ ap (λ (l : List ℕ). setIf (g .ends) l less (g .value)) e2 ∙ ap (λ (n : ℕ). setIf (g .ends) (setIf (g .starts) (a .high) (c .ranges) (g .value)) n (g .value)) hl
+    ∙ ap (λ (y : Step). setIf (y .ends) (setIf (y .starts) (a .high) (c .ranges) (y .value)) (c .ranges - 1) (y .value)) hg)
+    (e4 ∙ ap (λ (y : Step). setIf (y .closes .relation) (a .operand) (c .relations) (o .operand)) hg)
+    (e5 ∙ ap (λ (y : Step). setIf (y .closes .relation) (a .modulus) (c .relations) (o .modulus)) hg)
+    (e6 ∙ ap (λ (y : Step). setIf (y .closes .relation) (a .negated) (c .relations) (o .negated)) hg)
+    (e7 ∙ ap (λ (y : Step). setIf (y .closes .relation) (a .ranges) (c .relations) (c .ranges)) hg)
+    (e8 ∙ ap (λ (y : Step). setIf (y .closes .clause) (a .relations) (c .clauses) (y .walk .counts .relations)) hg)
+    (e9 ∙ ap (λ (y : Step). setIf (y .closes .rule) (a .keyword) (c .rules) (o .key)) hg)
+    (e10 ∙ ap (λ (y : Step). setIf (y .closes .rule) (a .clauses) (c .rules) (y .walk .counts .clauses)) hg) in
+    let r = board-is b t at {k = k} {v = valueAt k t} {x = closesAt k t} {q = stepAfter t at (a .keyword) w .walk} refl refl refl refl f in
+    let z = onward b _ s end at m next (r ∙ ap (λ (y : Text). boardAfter b y at) ht) (i .none) hm h hs in
+    subst (λ (y : Walk). Takes s end first at next y (arraysOf low twice operand modulus negated ranges relations keyword clauses)) (sym (ap (λ (y : Step). y .walk) hg))
+    (record { stands = record { within = z .within; none = hs .none; rest = z .rest ∙ i .rest }; more = z .more })
 
 pub stands-last : {s end : Text} {first a : Arrays} {at : ℕ} {w : Walk} → Stands s end first at w a → length s < at
     → record { walk = w; arrays = a } ≡ boardAfter (boards (record { walk = startWalk; arrays = first }) (tokens 0 s)) end (length s)

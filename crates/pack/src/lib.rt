@@ -9,7 +9,7 @@ ghost use lib.ListN.{length};
 ghost use Prim.Native.Nat.{_-_, _≤_};
 ghost use Rattle.rules.specs.Held.{heldRules};
 ghost use Rattle.grammar.specs.Reader.{rowOf, readPack};
-ghost use Rattle.walk.specs.Steps.{walkWith};
+ghost use Rattle.walk.specs.Steps.{stepAfter};
 ghost use Rattle.pack.specs.Answer.{packRowAt, verdictAt, verdictOf, rulesOf};
 ghost use Rattle.pack.specs.Board.{setIf, tokenAt, startWalk, within4096, Skipped, faultVerdict, judged, judgedAll, placeIn, outcomeOf};
 use answer::PackRow;
@@ -22,14 +22,12 @@ use phase::number;
 use rules::Pack;
 use token::piece_len;
 use token::white_len;
-use walk::Closes;
 use walk::Counts;
 use walk::Current;
 use walk::Mark;
+use walk::Step;
 use walk::Walk;
-use walk::closed_by;
-use walk::value_at;
-use walk::walk_after;
+use walk::step_after;
 
 const MAX_BYTES: usize = 4096;
 
@@ -144,10 +142,10 @@ fn token_at<'a>(s: &'a [u8], end: &'a [u8], at: usize, m: usize) -> &'a [u8]
     end
 }
 
-fn walk_on(t: &[u8], at: usize, keys: &[u8; 6], w: Walk, v: u32, x: Closes) -> Walk
-    ensures { λ r. ⌜ r ≡ walkWith (now (t .entry)) at (now (keys .entry)) w v x ⌝ }
+fn step_on(t: &[u8], at: usize, keys: &[u8; 6], w: Walk) -> Step
+    ensures { λ r. ⌜ r ≡ stepAfter (now (t .entry)) at (now (keys .entry)) w ⌝ }
 {
-    walk_after(t, at, keys, w, v, x)
+    step_after(t, at, keys, w)
 }
 
 // Where the white space ends that stands at a place.
@@ -344,15 +342,14 @@ pub fn read_pack(text: &[u8]) -> Pack
         let t = token_at(s, end, at, m);
         let c = w.counts;
         let o = w.current;
-        let f = w.phase;
-        let k = number(f);
-        let v = value_at(k, t);
-        let x = closed_by(k, t);
-        w = walk_on(t, at, &p.keyword, w, v, x);
-        let d = w.counts;
-        put_end(k == 7, &mut p.low, c.ranges, v);
-        put_end(k == 7, &mut p.high, c.ranges, v);
-        put_end(k == 9, &mut p.high, less_one(c.ranges), v);
+        let g = step_on(t, at, &p.keyword, w);
+        let q = g.walk;
+        let d = q.counts;
+        let x = g.closes;
+        let v = g.value;
+        put_end(g.starts, &mut p.low, c.ranges, v);
+        put_end(g.starts, &mut p.high, c.ranges, v);
+        put_end(g.ends, &mut p.high, less_one(c.ranges), v);
         put_operand(x.relation, &mut p.operand, c.relations, o.operand);
         put_modulus(x.relation, &mut p.modulus, c.relations, o.modulus);
         put_negated(x.relation, &mut p.negated, c.relations, o.negated);
@@ -360,6 +357,7 @@ pub fn read_pack(text: &[u8]) -> Pack
         put_relations(x.clause, &mut p.relations, c.clauses, d.relations);
         put_keyword(x.rule, &mut p.keyword, c.rules, o.key);
         put_clauses(x.rule, &mut p.clauses, c.rules, d.clauses);
+        w = q;
         at = skip_white(s, at + m);
     }
     let c = w.counts;
