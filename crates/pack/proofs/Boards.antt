@@ -1,26 +1,28 @@
 -- Laws of the board: what is made of parts as defined is as defined, and one piece of the text more.
-use mathlib.Core.Path.{_≡_, refl, sym, ap, _∙_}
+use mathlib.Core.Path.{_≡_, refl, sym, ap, _∙_, subst}
 use mathlib.Core.Bool.{Bool, true, false}
 use mathlib.Core.List.{List, []}
-use Prim.Native.Nat.{ℕ, _+_, _-_, _≤_, _<_}
+use Prim.Native.Nat.{ℕ, _+_, _-_, _≤_, _<_, max}
 use native.Mathlib.Omega.{arith}
 use lib.Dec.{eqb, ltb}
-use lib.ListN.{length, take, drop, drop-of-length-le, length-drop}
+use lib.ListN.{length, take, drop, replicate, drop-of-length-le, length-drop, length-replicate}
 use lib.Seq.{drop-drop}
 use borrow.Author.Tests.{lt-ltb, le-ltb, ltb-true, ltb-false}
 use Rattle.decimal.specs.Choice.{if_then_else_}
-use Rattle.decimal.proofs.Choices.{tested}
+use Rattle.decimal.proofs.Choices.{choice, tested}
 use Rattle.token.specs.Token.{whiteLen, tokenLen, pieceLen, isWhite, Token, tokens}
 use Rattle.token.proofs.Pieces.{piece, pieced, tokens-turn, no-tokens}
-use Rattle.grammar.specs.Grammar.{Text, semi}
+use Rattle.grammar.specs.Limits.{maxBytes}
+use Rattle.grammar.specs.Grammar.{Text}
 use Rattle.phase.specs.Next.{phaseNumber}
-use Rattle.walk.specs.Steps.{capped, valueAt, closesAt, countsAfter, walkAfter}
+use Rattle.walk.specs.Steps.{capped, valueAt, closesAt, countsAfter, walkWith, stepAfter}
 use Rattle.walk.specs.declared.Counts.{Counts}
 use Rattle.walk.specs.declared.Closes.{Closes}
 use Rattle.walk.specs.declared.Current.{Current}
 use Rattle.walk.specs.declared.Walk.{Walk}
-use Rattle.pack.specs.Board.{Arrays, arraysOf, setIf, filled, Board, tokenAt, boardAfter, boards, startWalk, judged, counted, Sized, lastBoard, packOf, ReadOf}
-use Rattle.pack.specs.declared.Verdict.{Verdict}
+use Rattle.walk.specs.declared.Step.{Step}
+use Rattle.walk.proofs.Walks.{walk-value}
+use Rattle.pack.specs.Board.{Arrays, arraysOf, setIf, filled, Board, tokenAt, boardAfter, boards, startWalk, Skipped, within4096, Sized}
 
 pub filled-is : (k v : ℕ) (x : Closes) (c d : Counts) (o : Current) (a : Arrays) {low high operand modulus ranges relations keyword clauses : List ℕ} {negated : List Bool}
     → low ≡ setIf (eqb k 7) (a .low) (c .ranges) v
@@ -41,12 +43,12 @@ filled-value k t x c d o a =
     tested (eqb k 5) (λ p. rw p) (λ p. tested (eqb k 7) (λ q. rw (p, q)) (λ q. tested (eqb k 9) (λ r. rw (p, q, r)) (λ r. rw (p, q, r))))
 
 pub board-is : (b : Board) (t : Text) (at : ℕ) {k v : ℕ} {x : Closes} {q : Walk} {a : Arrays}
-    → k ≡ phaseNumber (b .walk .phase) → v ≡ valueAt k t → x ≡ closesAt k t → q ≡ walkAfter t at (b .arrays .keyword) (b .walk)
+    → k ≡ phaseNumber (b .walk .phase) → v ≡ valueAt k t → x ≡ closesAt k t → q ≡ walkWith t at (b .arrays .keyword) (b .walk) v x
     → a ≡ filled k v x (b .walk .counts) (q .counts) (b .walk .current) (b .arrays) → record { walk = q; arrays = a } ≡ boardAfter b t at
 board-is b t at hk hv hx hq ha =
     let w = b .walk in
     let k = phaseNumber (w .phase) in
-    rw (ha, hq, hx, hv, hk, filled-value k t (closesAt k t) (w .counts) (countsAfter (w .counts) (eqb k 7) (closesAt k t)) (w .current) (b .arrays))
+    rw (ha, hq, hx, hv, hk, walk-value t at (b .arrays .keyword) w (closesAt k t), filled-value k t (closesAt k t) (w .counts) (countsAfter (w .counts) (eqb k 7) (closesAt k t)) (w .current) (b .arrays))
 
 -- ---- one piece more
 
@@ -119,17 +121,159 @@ step b e s end at white m he hw hm h =
     })
     (λ q. last b e s end at white m he hw hm (omega (arith, ltb-false at (length s) q)))
 
--- ---- the whole pack
+-- ---- white space, one code point at a time
 
-pub read-of : (s : Text) {a e : Arrays} {u : Walk} {v : Verdict} {n : ℕ} → Sized a → record { walk = u; arrays = e } ≡ lastBoard a s
-    → v ≡ judged u → n ≡ counted v (u .counts .rules) → ReadOf (record { verdict = v; pack = packOf e n }) s
-read-of s {a} {e} {u} {v} {n} z q hv hn =
-    let k : v ≡ judged (lastBoard a s .walk) = hv ∙ ap (λ (x : Board). judged (x .walk)) q in
+pub record Skipping (s : Text) (from at : ℕ) : Type 0 where
+  pub onward : from ≤ at
+  pub bound : at ≤ max (length s) from
+  pub same : tokens at (drop at s) ≡ tokens from (drop from s)
+
+pub skip-start : (s : Text) (from : ℕ) → Skipping s from from
+skip-start s from = record { onward = omega arith; bound = omega arith; same = refl }
+
+pub record More (s : Text) (from at n : ℕ) : Type 0 where
+  pub on : Skipping s from (at + n)
+  pub some : 0 < n
+  pub within : at + n ≤ length s
+
+pub skip-more : (s : Text) (from at n : ℕ) → Skipping s from at → at < length s → n ≡ whiteLen (drop at s) → (n ≡ 0 → ⊥) → More s from at n
+skip-more s from at n k h hn some =
+    let u = drop at s in
+    let l : 0 < length u = omega (arith, length-drop at s) in
+    let w : isWhite u ≡ true = lt-ltb 0 (whiteLen u) (omega (arith, some)) in
+    let q : pieceLen u ≡ n = rw w (sym hn) in
+    let p = piece u l in
+    let m : n ≤ length u = subst (λ (x : ℕ). x ≤ length u) q (p .1) in
+    let turned : tokens at u ≡ tokens (at + n) (drop n u) =
+    tokens-turn at u l ∙ blank-piece (isWhite u) at (take (pieceLen u) u) (tokens (at + pieceLen u) (drop (pieceLen u) u)) w
+    ∙ ap (λ (x : ℕ). tokens (at + x) (drop x u)) q in
+    let o = k .onward in
+    let b : at + n ≤ length s = omega (arith, length-drop at s, m) in
     record {
-      from = a;
-      sized = z;
-      verdict = k;
-      pack =
-          ap (packOf e) (hn ∙ ap (λ (x : Verdict). counted x (u .counts .rules)) k)
-          ∙ ap (λ (x : Board). packOf (x .arrays) (counted (judged (lastBoard a s .walk)) (x .walk .counts .rules))) q;
+      on = record { onward = omega arith; bound = omega arith; same = ap (tokens (at + n)) (sym (drop-drop n at s)) ∙ sym turned ∙ k .same };
+      some = omega (arith, some);
+      within = b;
+    }
+  where
+    blank-piece : (w : Bool) (a : ℕ) (t : Text) (l : List Token) → w ≡ true → pieced w a t l ≡ l
+    blank-piece w a t l e = rw e
+
+pub skip-end : (s : Text) (from at : ℕ) {n : ℕ} → Skipping s from at → n ≡ whiteLen (drop at s) → n ≡ 0 → Skipped s from at
+skip-end s from at k hn z = record { onward = k .onward; bound = k .bound; none = sym hn ∙ z; same = k .same }
+
+pub skip-out : (s : Text) (from at : ℕ) → Skipping s from at → length s ≤ at → Skipped s from at
+skip-out s from at k h = record { onward = k .onward; bound = k .bound; none = ap whiteLen (drop-of-length-le s {i = at} h); same = k .same }
+
+-- white space before a token makes no difference
+skipped : (s end : Text) (from at : ℕ) (b : Board) → Skipped s from at → ahead s end at b ≡ ahead s end from b
+skipped s end from at b k =
+    tested (ltb (length s) from)
+    (λ q. let h = ltb-true (length s) from q in
+    let e : at ≡ from = omega (arith, k .onward, k .bound) in
+    ap (λ (n : ℕ). ahead s end n b) e)
+    (λ q. let h = ltb-false (length s) from q in
+    rw (q, le-ltb (length s) at (omega (arith, k .bound))) (ap (λ (l : List Token). boardAfter (boards b l) end (length s)) (k .same)))
+
+-- one token, and the white space behind it
+pub record Onward (b e : Board) (s end : Text) (at next : ℕ) : Type 0 where
+  pub rest : ahead s end next e ≡ ahead s end at b
+  pub more : at < next
+  pub within : next ≤ length s + 1
+
+pub onward : (b e : Board) (s end : Text) (at m next : ℕ) → e ≡ boardAfter b (tokenAt s end at m) at → whiteLen (drop at s) ≡ 0 → m ≡ tokenLen (drop at s) → at ≤ length s
+    → Skipped s (at + m) next → Onward b e s end at next
+onward b e s end at m next he hw hm h k =
+    let z = step b e s end at 0 m he (sym hw) hm h in
+    record {
+      rest = skipped s end (at + m) next e k ∙ z .rest;
+      more = omega (arith, z .some, k .onward);
+      within = omega (arith, z .within, k .bound);
+    }
+
+-- ---- the loop of `read_pack`: it stands at a token or at the end, and what is ahead gives what the first arrays give with the whole text
+
+pub record Stands (s end : Text) (first : Arrays) (at : ℕ) (w : Walk) (a : Arrays) : Type 0 where
+  pub within : at ≤ length s + 1
+  pub none : whiteLen (drop at s) ≡ 0
+  pub rest : ahead s end at (record { walk = w; arrays = a }) ≡ boardAfter (boards (record { walk = startWalk; arrays = first }) (tokens 0 s)) end (length s)
+
+pub stands-first : (s end : Text) (a : Arrays) (at : ℕ) (w : Walk) → w ≡ startWalk → Skipped s 0 at → Stands s end a at w a
+stands-first s end a at w h k =
+    record {
+      within = omega (arith, k .bound);
+      none = k .none;
+      rest = skipped s end 0 at (record { walk = w; arrays = a }) k ∙ starting s end a w h;
+    }
+
+pub record Takes (s end : Text) (first : Arrays) (at next : ℕ) (w : Walk) (a : Arrays) : Type 0 where
+  pub stands : Stands s end first next w a
+  pub more : at < next
+
+pub token-ends : (s : Text) (at m : ℕ) → whiteLen (drop at s) ≡ 0 → m ≡ tokenLen (drop at s) → at ≤ length s → at + m ≤ length s + 1
+token-ends s at m hw hm h =
+    let b : Board = record { walk = startWalk; arrays = arraysOf [] [] [] [] [] [] [] [] [] } in
+    step b (boardAfter b (tokenAt s [] at m) at) s [] at 0 m refl (sym hw) hm h .within
+
+pub takes : {s end : Text} {first a : Arrays} {at : ℕ} {w : Walk} → Stands s end first at w a → (t : Text) (m next : ℕ)
+    {less : ℕ} {low high twice operand modulus ranges relations keyword clauses : List ℕ} {negated : List Bool}
+    → t ≡ tokenAt s end at m → m ≡ tokenLen (drop at s) → at ≤ length s → Skipped s (at + m) next → less ≡ w .counts .ranges - 1
+    → (g : Step) → g ≡ stepAfter t at (a .keyword) w
+    → low ≡ setIf (g .starts) (a .low) (w .counts .ranges) (g .value)
+    → high ≡ setIf (g .starts) (a .high) (w .counts .ranges) (g .value)
+    → twice ≡ setIf (g .ends) high less (g .value)
+    → operand ≡ setIf (g .closes .relation) (a .operand) (w .counts .relations) (w .current .operand)
+    → modulus ≡ setIf (g .closes .relation) (a .modulus) (w .counts .relations) (w .current .modulus)
+    → negated ≡ setIf (g .closes .relation) (a .negated) (w .counts .relations) (w .current .negated)
+    → ranges ≡ setIf (g .closes .relation) (a .ranges) (w .counts .relations) (w .counts .ranges)
+    → relations ≡ setIf (g .closes .clause) (a .relations) (w .counts .clauses) (g .walk .counts .relations)
+    → keyword ≡ setIf (g .closes .rule) (a .keyword) (w .counts .rules) (w .current .key)
+    → clauses ≡ setIf (g .closes .rule) (a .clauses) (w .counts .rules) (g .walk .counts .clauses)
+    → Takes s end first at next (g .walk) (arraysOf low twice operand modulus negated ranges relations keyword clauses)
+takes {s} {end} {first} {a} {at} {w} i t m next {less} {low} {high} {twice} {operand} {modulus} {ranges} {relations} {keyword} {clauses} {negated} ht hm h hs hl g hg e1 e2 e3 e4 e5 e6 e7 e8 e9 e10 =
+    let b : Board = record { walk = w; arrays = a } in
+    let k = phaseNumber (w .phase) in
+    let c = w .counts in
+    let o = w .current in
+    let f =
+    filled-is k (valueAt k t) (closesAt k t) c (stepAfter t at (a .keyword) w .walk .counts) o a
+    (e1 ∙ ap (λ (y : Step). setIf (y .starts) (a .low) (c .ranges) (y .value)) hg)
+    (e3 ∙ ap (λ (l : List ℕ). setIf (g .ends) l less (g .value)) e2 ∙ ap (λ (n : ℕ). setIf (g .ends) (setIf (g .starts) (a .high) (c .ranges) (g .value)) n (g .value)) hl
+    ∙ ap (λ (y : Step). setIf (y .ends) (setIf (y .starts) (a .high) (c .ranges) (y .value)) (c .ranges - 1) (y .value)) hg)
+    (e4 ∙ ap (λ (y : Step). setIf (y .closes .relation) (a .operand) (c .relations) (o .operand)) hg)
+    (e5 ∙ ap (λ (y : Step). setIf (y .closes .relation) (a .modulus) (c .relations) (o .modulus)) hg)
+    (e6 ∙ ap (λ (y : Step). setIf (y .closes .relation) (a .negated) (c .relations) (o .negated)) hg)
+    (e7 ∙ ap (λ (y : Step). setIf (y .closes .relation) (a .ranges) (c .relations) (c .ranges)) hg)
+    (e8 ∙ ap (λ (y : Step). setIf (y .closes .clause) (a .relations) (c .clauses) (y .walk .counts .relations)) hg)
+    (e9 ∙ ap (λ (y : Step). setIf (y .closes .rule) (a .keyword) (c .rules) (o .key)) hg)
+    (e10 ∙ ap (λ (y : Step). setIf (y .closes .rule) (a .clauses) (c .rules) (y .walk .counts .clauses)) hg) in
+    let r = board-is b t at {k = k} {v = valueAt k t} {x = closesAt k t} {q = stepAfter t at (a .keyword) w .walk} refl refl refl refl f in
+    let z = onward b _ s end at m next (r ∙ ap (λ (y : Text). boardAfter b y at) ht) (i .none) hm h hs in
+    subst (λ (y : Walk). Takes s end first at next y (arraysOf low twice operand modulus negated ranges relations keyword clauses)) (sym (ap (λ (y : Step). y .walk) hg))
+    (record { stands = record { within = z .within; none = hs .none; rest = z .rest ∙ i .rest }; more = z .more })
+
+pub stands-last : {s end : Text} {first a : Arrays} {at : ℕ} {w : Walk} → Stands s end first at w a → length s < at
+    → record { walk = w; arrays = a } ≡ boardAfter (boards (record { walk = startWalk; arrays = first }) (tokens 0 s)) end (length s)
+stands-last {s} {end} {first} {a} {at} {w} i h = rw (lt-ltb (length s) at h) at (i .rest)
+
+pub within-le : (text s : Text) → s ≡ within4096 text → length s ≤ 4096
+within-le text s e = subst (λ (l : Text). length l ≤ 4096) (sym e) (choice (λ (l : Text). length l ≤ 4096) (ltb maxBytes (length text)) (λ _. omega arith) (λ k. ltb-false maxBytes (length text) k))
+
+-- the arrays as they are made
+abbrev pub made : Arrays
+made =
+    arraysOf (replicate 2048 0) (replicate 2048 0) (replicate 320 0) (replicate 320 0) (replicate 320 false) (replicate 320 0) (replicate 40 0)
+    (replicate 6 0) (replicate 6 0)
+
+pub made-sized : Sized made
+made-sized =
+    record {
+      low = length-replicate {A = ℕ} 2048 0;
+      high = length-replicate {A = ℕ} 2048 0;
+      operand = length-replicate {A = ℕ} 320 0;
+      modulus = length-replicate {A = ℕ} 320 0;
+      negated = length-replicate {A = Bool} 320 false;
+      ranges = length-replicate {A = ℕ} 320 0;
+      relations = length-replicate {A = ℕ} 40 0;
+      keyword = length-replicate {A = ℕ} 6 0;
+      clauses = length-replicate {A = ℕ} 6 0;
     }

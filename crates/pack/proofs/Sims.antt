@@ -4,11 +4,11 @@ use mathlib.Core.Bool.{Bool, true, false}
 use mathlib.Core.List.{List, [], _∷_, _++_, map, append-nil}
 use Prim.Native.Nat.{ℕ, zero, suc, _+_, _≤_, _<_}
 use native.Mathlib.Omega.{arith}
-use lib.Dec.{eqb}
+use lib.Dec.{eqb, ltb}
 use lib.ListN.{length, take, drop, length-drop}
-use borrow.Author.Tests.{eqb-false, le-ltb, lt-ltb}
+use borrow.Author.Tests.{eqb-false, ltb-false, le-ltb}
 use Rattle.decimal.specs.Choice.{if_then_else_}
-use Rattle.decimal.proofs.Choices.{choice, not-both}
+use Rattle.decimal.proofs.Choices.{choice, tested, not-both}
 use Rattle.rules.specs.Syntax.{Relation}
 use Rattle.rules.specs.Held.{heldRules}
 use Rattle.token.specs.Spelling.{same}
@@ -22,12 +22,14 @@ use Rattle.grammar.specs.RuleOf.{ruleOf}
 use Rattle.grammar.specs.Steps.{Front, State, goOn, signed, step, Read, ends}
 use Rattle.grammar.specs.Steps.State.{WantsName, WantsColon, WantsNothing, WantsOperand, HasOperand, WantsModulus, HasModulus, WantsValue, HasValue, WantsUpper, HasUpper, Dead as Died}
 use Rattle.grammar.specs.Steps.Read.{Whole, Cut}
-use Rattle.grammar.specs.Reader.{isDead, Parsed, Fault, orElse, faultAt, judge, readPack}
+use Rattle.grammar.specs.Reader.{isDead, Parsed, Fault, orElse, faultAt, rowOf, judge, readPack}
 use Rattle.grammar.specs.Reader.Parsed.{Trees, Bad}
 use Rattle.grammar.specs.Reader.Fault.{None, At}
 use Rattle.grammar.specs.Reader.PackAnswer.{Refused as AnswerRefused}
-use Rattle.answer.specs.declared.Refusal.the-variants.{PackTooLong}
-use Rattle.rules.specs.declared.Pack.{Pack}
+use Rattle.answer.specs.Table.{packRow}
+use Rattle.answer.specs.declared.PackRow.{PackRow}
+use Rattle.answer.specs.declared.PackRow.the-variants.{NotAPack, ValueTooLarge, UnlistedModulus, RangeReversed, BadKeyword, TooMany}
+use Rattle.answer.specs.declared.Refusal.the-variants.{PackTooLong, Pack as OfPack}
 use Rattle.grammar.proofs.Places.{texts, or-0, or-1}
 use Rattle.grammar.proofs.Viable.{Far, closed, onward, far, outset, halt, last}
 use Rattle.grammar.proofs.Exact.{ended}
@@ -40,10 +42,12 @@ use Rattle.phase.proofs.Phases.{phaseOf, Flag, phase-on}
 use Rattle.walk.specs.declared.Counts.{Counts}
 use Rattle.walk.specs.declared.Current.{Current}
 use Rattle.walk.specs.declared.Mark.{Mark}
-use Rattle.pack.specs.Answer.{verdictOf, rulesOf}
-use Rattle.pack.specs.Board.{Arrays, Sized, Board, boardAfter, boards, startWalk, faultVerdict, judged, counted, lastBoard, packOf, ReadOf}
-use Rattle.pack.specs.declared.PackReading.{PackReading}
-use Rattle.pack.specs.declared.Verdict.the-variants.{Refused}
+use Rattle.walk.specs.declared.Walk.{Walk}
+use Rattle.pack.specs.Answer.{verdictAt, verdictOf, rulesOf}
+use Rattle.pack.specs.Board.{Arrays, Sized, Board, boardAfter, boards, startWalk, within4096, faultVerdict, judged, judgedAll, counted, outcomeOf, lastBoard, packOf}
+use Rattle.pack.specs.declared.Outcome.{Outcome as Numbers}
+use Rattle.pack.specs.declared.Verdict.{Verdict}
+use Rattle.pack.specs.declared.Verdict.the-variants.{Good, Refused}
 use Rattle.pack.proofs.Flats.{flat, held-back}
 use Rattle.pack.proofs.Tally.{no-tally}
 use Rattle.pack.proofs.Holds.{HoldsAt, Base, Ds, Cs, Rs, Gs, numbers, none, closedClauses}
@@ -353,13 +357,39 @@ answer a s z l =
 
 -- ---- what `read_pack` returns
 
-pub too-long : (s : Text) (p : Pack) → maxBytes < length s → p .count ≡ 0
-    → (Refused PackTooLong ≡ verdictOf (readPack s)) × (heldRules p ≡ rulesOf (readPack s))
-too-long s p h e =
-    let k : readPack s ≡ AnswerRefused PackTooLong = rw (lt-ltb maxBytes (length s) h) in
-    (sym (ap verdictOf k), rw e (sym (ap rulesOf k)))
+-- the verdict's numbers tell the verdict
+abbrev Told : Verdict → Type 0
+Told v = (n : ℕ) → verdictAt (outcomeOf v n .row) (outcomeOf v n .place) ≡ v
 
-pub short : (r : PackReading) (s : Text) → ReadOf r s → length s ≤ maxBytes → (r .verdict ≡ verdictOf (readPack s)) × (heldRules (r .pack) ≡ rulesOf (readPack s))
-short r s h l =
-    let w = answer (h .from) s (h .sized) l in
-    (h .verdict ∙ w .0, ap heldRules (h .pack) ∙ w .1)
+row-told : (row : PackRow) (place : ℕ) → verdictAt (packRow row) place ≡ Refused (OfPack row (record { 0 = place }))
+row-told NotAPack place = refl
+row-told ValueTooLarge place = refl
+row-told UnlistedModulus place = refl
+row-told RangeReversed place = refl
+row-told BadKeyword place = refl
+row-told TooMany place = refl
+
+judged-told : (w : Walk) → Told (judged w)
+judged-told w =
+    choice Told (eqb (phaseNumber (w .phase)) 0)
+    (λ _. choice Told (eqb (w .mark .row) 0) (λ _ n. refl) (λ _ n. row-told (rowOf (w .mark .row)) (w .mark .place))) (λ _ n. refl)
+
+counts-as : (v : Verdict) (n : ℕ) → outcomeOf v n .count ≡ counted v n
+counts-as Good n = refl
+counts-as (Refused r) n = refl
+
+pub told : (a e : Arrays) (u : Walk) (s : Text) {v : Verdict} {o : Numbers} → Sized a → record { walk = u; arrays = e } ≡ lastBoard a (within4096 s)
+    → v ≡ judgedAll (length s) u → o ≡ outcomeOf v (u .counts .rules)
+    → (verdictAt (o .row) (o .place) ≡ verdictOf (readPack s)) × (heldRules (packOf e (o .count)) ≡ rulesOf (readPack s))
+told a e u s {v} {o} z q hv ho =
+    tested (ltb maxBytes (length s))
+    (λ k. let r : readPack s ≡ AnswerRefused PackTooLong = rw k in
+    let h : o ≡ outcomeOf (Refused PackTooLong) (u .counts .rules) = ho ∙ ap (λ (x : Verdict). outcomeOf x (u .counts .rules)) (rw k at hv) in
+    (ap (λ (x : Numbers). verdictAt (x .row) (x .place)) h ∙ sym (ap verdictOf r), ap (λ (x : Numbers). heldRules (packOf e (x .count))) h ∙ sym (ap rulesOf r)))
+    (λ k. let f : record { walk = u; arrays = e } ≡ lastBoard a s = rw k at q in
+    let h : o ≡ outcomeOf (judged u) (u .counts .rules) = ho ∙ ap (λ (x : Verdict). outcomeOf x (u .counts .rules)) (rw k at hv) in
+    let w = answer a s z (ltb-false maxBytes (length s) k) in (
+      ap (λ (x : Numbers). verdictAt (x .row) (x .place)) h ∙ judged-told u (u .counts .rules) ∙ ap (λ (x : Board). judged (x .walk)) f ∙ w .0,
+      ap (λ (x : Numbers). heldRules (packOf e (x .count))) h ∙ ap (λ (n : ℕ). heldRules (packOf e n)) (counts-as (judged u) (u .counts .rules))
+          ∙ ap (λ (x : Board). heldRules (packOf (x .arrays) (counted (judged (x .walk)) (x .walk .counts .rules)))) f ∙ w .1,
+    ))

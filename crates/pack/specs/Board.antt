@@ -3,14 +3,18 @@
 use mathlib.Core.Path.{_≡_}
 use mathlib.Core.Bool.{Bool, false}
 use mathlib.Core.List.{List, [], _∷_}
-use Prim.Native.Nat.{ℕ, _-_}
+use Prim.Native.Nat.{ℕ, _-_, _≤_, max}
 use lib.Dec.{eqb, ltb}
 use lib.ListN.{length, take, drop, set}
 use Rattle.decimal.specs.Choice.{if_then_else_}
 use Rattle.answer.specs.declared.PackRow.the-variants.{NotAPack}
-use Rattle.answer.specs.declared.Refusal.the-variants.{Pack as OfPack}
+use Rattle.answer.specs.Table.{numberOf}
+use Rattle.answer.specs.declared.Refusal.{Refusal}
+use Rattle.answer.specs.declared.Refusal.the-variants.{Number, PackTooLong, Pack as OfPack, TwoRulesMet, RulesClash, Pattern, Symbols, PrintedExponent, AreaTooShort}
+use Rattle.rules.specs.Held.{lent}
 use Rattle.rules.specs.declared.Pack.{Pack}
-use Rattle.token.specs.Token.{Token, tokens}
+use Rattle.token.specs.Token.{whiteLen, Token, tokens}
+use Rattle.grammar.specs.Limits.{maxBytes}
 use Rattle.grammar.specs.Grammar.{Text, semi}
 use Rattle.grammar.specs.Reader.{rowOf}
 use Rattle.phase.specs.Next.{phaseNumber}
@@ -20,7 +24,7 @@ use Rattle.walk.specs.declared.Counts.{Counts}
 use Rattle.walk.specs.declared.Closes.{Closes}
 use Rattle.walk.specs.declared.Current.{Current}
 use Rattle.walk.specs.declared.Walk.{Walk}
-use Rattle.pack.specs.declared.PackReading.{PackReading}
+use Rattle.pack.specs.declared.Outcome.{Outcome}
 use Rattle.pack.specs.declared.Verdict.{Verdict}
 use Rattle.pack.specs.declared.Verdict.the-variants.{Good, Refused}
 
@@ -103,6 +107,17 @@ boards b (t ∷ ts) = boards (boardAfter b (t .text) (t .at)) ts
 abbrev pub tokenAt : Text → Text → ℕ → ℕ → Text
 tokenAt s end at m = if ltb at (length s) then take m (drop at s) else end
 
+-- the place behind the white space that stands at a place
+pub record Skipped (s : Text) (from at : ℕ) : Type 0 where
+  pub onward : from ≤ at
+  pub bound : at ≤ max (length s) from
+  pub none : whiteLen (drop at s) ≡ 0
+  pub same : tokens at (drop at s) ≡ tokens from (drop from s)
+
+-- a text, or nothing of it where it is too long
+abbrev pub within4096 : Text → Text
+within4096 s = if ltb maxBytes (length s) then [] else s
+
 -- ---- at the pack's end, behind a last `;`: a rule has been closed there, or nothing could follow
 
 abbrev pub faultVerdict : ℕ → ℕ → Verdict
@@ -113,9 +128,29 @@ judged w =
     if eqb (phaseNumber (w .phase)) 0 then faultVerdict (w .mark .row) (w .mark .place) else
     Refused (OfPack NotAPack (record { 0 = w .mark .stop }))
 
+-- the verdict on a pack of n bytes
+abbrev pub judgedAll : ℕ → Walk → Verdict
+judgedAll n w = if ltb maxBytes n then Refused PackTooLong else judged w
+
 abbrev pub counted : Verdict → ℕ → ℕ
 counted Good n = n
 counted (Refused r) n = 0
+
+abbrev pub placeIn : Refusal → ℕ
+placeIn (Number row) = 0
+placeIn PackTooLong = 0
+placeIn (OfPack row at) = at .0
+placeIn (TwoRulesMet pair) = 0
+placeIn (RulesClash pair x) = 0
+placeIn (Pattern row) = 0
+placeIn (Symbols row) = 0
+placeIn PrintedExponent = 0
+placeIn (AreaTooShort n) = 0
+
+-- a verdict as numbers, and how many rules there are: none where the pack is refused
+abbrev pub outcomeOf : Verdict → ℕ → Outcome
+outcomeOf Good n = record { row = 0; place = 0; count = n }
+outcomeOf (Refused r) n = record { row = numberOf r; place = placeIn r; count = 0 }
 
 -- ---- the whole pack
 
@@ -134,24 +169,6 @@ pub record Sized (a : Arrays) : Type 0 where
 abbrev pub lastBoard : Arrays → Text → Board
 lastBoard a s = boardAfter (boards (record { walk = startWalk; arrays = a }) (tokens 0 s)) semi (length s)
 
+-- the pack of n rules in these arrays
 abbrev pub packOf : Arrays → ℕ → Pack
-packOf a n =
-    record {
-      low = a .low;
-      high = a .high;
-      operand = a .operand;
-      modulus = a .modulus;
-      negated = a .negated;
-      ranges = a .ranges;
-      relations = a .relations;
-      keyword = a .keyword;
-      clauses = a .clauses;
-      count = n;
-    }
-
--- a reading holds what the last board has, whatever the arrays held before
-pub record ReadOf (r : PackReading) (s : Text) : Type 0 where
-  pub from : Arrays
-  pub sized : Sized from
-  pub verdict : r .verdict ≡ judged (lastBoard from s .walk)
-  pub pack : r .pack ≡ packOf (lastBoard from s .arrays) (counted (judged (lastBoard from s .walk)) (lastBoard from s .walk .counts .rules))
+packOf a n = lent (a .low) (a .high) (a .operand) (a .modulus) (a .negated) (a .ranges) (a .relations) (a .keyword) (a .clauses) n

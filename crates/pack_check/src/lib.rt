@@ -23,10 +23,10 @@ fn checked_by(c: Checked) -> PackCheck
 pub fn check(pack: &[u8]) -> PackCheck
     ensures { λ r. ⌜ r ≡ checkPack (now (pack .entry)) ⌝ }
 {
-    let read = pack::read_pack(pack);
-    let verdict = read.verdict;
+    let p = pack::read_pack(pack);
+    let verdict = pack::verdict_of(p.row, p.place);
     match verdict {
-        Verdict::Good => checked_by(clash::check(read.pack)),
+        Verdict::Good => checked_by(clash::check(p)),
         Verdict::Refused(refusal) => PackCheck::Refused(refusal),
     }
 }

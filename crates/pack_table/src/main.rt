@@ -5,8 +5,8 @@ ghost use lib.ListN.{length};
 use answer::Refusal;
 use libc::STDIN_FILENO;
 use libc::STDOUT_FILENO;
-use pack::PackReading;
 use pack::Verdict;
+use rules::Pack;
 
 fn wide(x: usize) -> u64 {
     x as u64
@@ -33,9 +33,8 @@ fn print_count(n: usize) {
     io::write_all(STDOUT_FILENO, b"\n");
 }
 
-fn print_reading(r: PackReading) {
-    let v = r.verdict;
-    let p = r.pack;
+fn print_reading(p: Pack) {
+    let v = pack::verdict_of(p.row, p.place);
     match v {
         Verdict::Good => print_count(p.count),
         Verdict::Refused(x) => print_refusal(x),

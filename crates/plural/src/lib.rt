@@ -1,14 +1,15 @@
 // Chooses the plural word of a number by the rules of a pack.
 //
-// The entry is select_rule, for a parsed pack and a read number. specs/Meaning.antt says what rules
-// mean of a number, specs/Select.antt which word that gives.
+// The entries are select_rule, for a parsed pack and a read number, and select_held, the same for a
+// pack whose arrays are lent: a pack that is kept serves many numbers without a copy of it. specs/Meaning.antt
+// says what rules mean of a number, specs/Select.antt which word that gives.
 mod mask;
 mod meaning;
 
 ghost use mathlib.Core.Path.{_≡_};
 ghost use Prim.Native.Nat.{_<_};
 ghost use lib.ListN.{getD};
-ghost use Rattle.rules.specs.Held.{keywordOf, heldRules};
+ghost use Rattle.rules.specs.Held.{keywordOf, heldRules, lent};
 ghost use Rattle.plural.specs.Select.{selection};
 use answer::Keyword;
 use answer::Pair;
@@ -42,20 +43,57 @@ fn keyword_at(keyword: &[u8; 6], k: usize) -> Keyword
     keyword_of(keyword[k])
 }
 
-// The word of a number, or refusal 27 with the first two rules that it meets.
-pub fn select_rule(p: Pack, x: Number) -> Selection
-    ensures { λ r. ⌜ r ≡ selection (heldRules p) x ⌝ }
+// Lent as slices the arrays have the lengths that they are declared with; there is nothing else to do.
+fn sized<'a>(
+    operand: &'a [u8],
+    modulus: &'a [u32],
+    negated: &'a [bool],
+    ranges: &'a [usize],
+    low: &'a [u32],
+    high: &'a [u32],
+    relations: &'a [usize],
+    keyword: &'a [u8],
+    clauses: &'a [usize],
+) {}
+
+// The word of a number by the first `count` rules in a pack's arrays, or refusal 27 with the first two
+// rules that it meets.
+pub fn select_held<'a>(
+    operand: &'a [u8; 320],
+    modulus: &'a [u32; 320],
+    negated: &'a [bool; 320],
+    ranges: &'a [usize; 320],
+    low: &'a [u32; 2048],
+    high: &'a [u32; 2048],
+    relations: &'a [usize; 40],
+    keyword: &'a [u8; 6],
+    clauses: &'a [usize; 6],
+    count: usize,
+    x: Number,
+) -> Selection
+    ensures { λ r. ⌜ r ≡ selection (heldRules (lent (now (low .entry)) (now (high .entry)) (now (operand .entry)) (now (modulus .entry)) (now (negated .entry)) (now (ranges .entry)) (now (relations .entry)) (now (keyword .entry)) (now (clauses .entry)) count)) x ⌝ }
 {
+    sized(
+        operand,
+        modulus,
+        negated,
+        ranges,
+        low,
+        high,
+        relations,
+        keyword,
+        clauses,
+    );
     let m = mask::met_mask(
-        &p.operand,
-        &p.modulus,
-        &p.negated,
-        &p.ranges,
-        &p.low,
-        &p.high,
-        &p.relations,
-        &p.clauses,
-        p.count,
+        operand,
+        modulus,
+        negated,
+        ranges,
+        low,
+        high,
+        relations,
+        clauses,
+        count,
         x,
     );
     let met = u32::count_ones(m);
@@ -64,7 +102,7 @@ pub fn select_rule(p: Pack, x: Number) -> Selection
     }
     let first = u32::trailing_zeros(m);
     if met == 1 {
-        return Selection::Word(keyword_at(&p.keyword, first as usize));
+        return Selection::Word(keyword_at(keyword, first as usize));
     }
     let behind = first + 1;
     let second = behind + u32::trailing_zeros(m >> behind);
@@ -72,4 +110,23 @@ pub fn select_rule(p: Pack, x: Number) -> Selection
         first: behind as u8,
         second: (second + 1) as u8,
     }))
+}
+
+// The same for a parsed pack.
+pub fn select_rule(p: Pack, x: Number) -> Selection
+    ensures { λ r. ⌜ r ≡ selection (heldRules p) x ⌝ }
+{
+    select_held(
+        &p.operand,
+        &p.modulus,
+        &p.negated,
+        &p.ranges,
+        &p.low,
+        &p.high,
+        &p.relations,
+        &p.keyword,
+        &p.clauses,
+        p.count,
+        x,
+    )
 }

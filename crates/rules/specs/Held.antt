@@ -55,3 +55,21 @@ heldClauses p = parts 0 (p .relations) (heldRelations p)
 -- the pack's rules, in the order of the text
 abbrev pub heldRules : Pack → List Rule
 heldRules p = rulesFrom (take (p .count) (p .keyword)) (parts 0 (p .clauses) (heldClauses p))
+
+-- a pack with these arrays and so many rules, as they are lent to whoever selects from them
+abbrev pub lent : List ℕ → List ℕ → List ℕ → List ℕ → List Bool → List ℕ → List ℕ → List ℕ → List ℕ → ℕ → Pack
+lent low high operand modulus negated ranges relations keyword clauses count =
+    record {
+      low = low;
+      high = high;
+      operand = operand;
+      modulus = modulus;
+      negated = negated;
+      ranges = ranges;
+      relations = relations;
+      keyword = keyword;
+      clauses = clauses;
+      count = count;
+      row = 0;
+      place = 0;
+    }

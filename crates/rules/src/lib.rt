@@ -22,4 +22,7 @@ pub struct Pack {
     pub clauses: [usize; 6],
     // how many rules there are
     pub count: usize,
+    // the number of the refusal and its place, both 0 where the pack is read; a refused pack has no rules
+    pub row: u8,
+    pub place: usize,
 }

@@ -29,7 +29,7 @@ use Rattle.plural.specs.declared.Selection.the-variants.{Refused}
 use Rattle.select.specs.Select.{selectNumber, selectRules, selectOf}
 
 -- the verdict and the rules that the reader of packs returns decide as its answer does
-pub good : (a : PackAnswer) (v : Verdict) (rules : List Rule) (x : Reading) → v ≡ verdictOf a → v ≡ Good → rules ≡ rulesOf a → selectNumber rules x ≡ selectRules a x
+good : (a : PackAnswer) (v : Verdict) (rules : List Rule) (x : Reading) → v ≡ verdictOf a → v ≡ Good → rules ≡ rulesOf a → selectNumber rules x ≡ selectRules a x
 good (Rules rs) v rules x e g r = ap (λ (l : List Rule). selectNumber l x) r
 good (PackRefused f) v rules x e g r = never (cc)
 
@@ -38,6 +38,15 @@ bad (Rules rs) v f x e b = never (cc)
 bad (PackRefused g) v f x e b =
     let same : f ≡ g = cc in
     ap Refused same
+
+-- where the pack is read: the number's word, or its refusal
+pub word : (a : PackAnswer) (v : Verdict) (rules : List Rule) (x : Number) (n r : Reading) → v ≡ verdictOf a → v ≡ Good → rules ≡ rulesOf a → n ≡ r → n ≡ Is x
+    → selection rules x ≡ selectRules a r
+word a v rules x n r e g h m k = ap (selectNumber rules) (sym k ∙ m) ∙ good a v rules r e g h
+
+pub unread : (a : PackAnswer) (v : Verdict) (rules : List Rule) (f : Refusal) (n r : Reading) → v ≡ verdictOf a → v ≡ Good → rules ≡ rulesOf a → n ≡ r
+    → n ≡ NumberRefused f → Refused f ≡ selectRules a r
+unread a v rules f n r e g h m k = ap (selectNumber rules) (sym k ∙ m) ∙ good a v rules r e g h
 
 -- ---- the order of the tests
 

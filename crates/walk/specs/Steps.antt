@@ -14,11 +14,13 @@ use Rattle.token.specs.Token.{differ}
 use Rattle.grammar.specs.Limits.{maxBytes, maxClauses, maxRelations, maxRanges, maxValue, isModulus}
 use Rattle.grammar.specs.Grammar.{Text, semi, and, or, other}
 use Rattle.phase.specs.Next.{nextPhase, phaseNumber}
+use Rattle.phase.specs.declared.Phase.{Phase}
 use Rattle.walk.specs.declared.Counts.{Counts}
 use Rattle.walk.specs.declared.Closes.{Closes}
 use Rattle.walk.specs.declared.Current.{Current}
 use Rattle.walk.specs.declared.Mark.{Mark}
 use Rattle.walk.specs.declared.Walk.{Walk}
+use Rattle.walk.specs.declared.Step.{Step}
 
 -- ---- one token
 
@@ -127,14 +129,43 @@ markAfter m k row at =
       place = if eqb (m .row) 0 then at else m .place;
     }
 
-abbrev pub walkAfter : Text → ℕ → List ℕ → Walk → Walk
-walkAfter t at keys w =
+-- the walk behind a token that has this value and closes so much
+abbrev pub walkWith : Text → ℕ → List ℕ → Walk → ℕ → Closes → Walk
+walkWith t at keys w v x =
     let k = phaseNumber (w .phase) in
-    let v = capped t in
     let key = keyAfter k t (w .current .key) in
     record {
       phase = nextPhase (w .phase) (w .current .other) t;
-      counts = countsAfter (w .counts) (eqb k 7) (closesAt k t);
+      counts = countsAfter (w .counts) (eqb k 7) x;
       current = currentAfter (w .current) k t v key;
       mark = markAfter (w .mark) k (rowAt k key (both (eqb k 0) (held key (take (w .counts .rules) keys))) v (w .counts) (w .current .low)) at;
     }
+
+abbrev pub walkAfter : Text → ℕ → List ℕ → Walk → Walk
+walkAfter t at keys w = walkWith t at keys w (capped t) (closesAt (phaseNumber (w .phase)) t)
+
+-- ---- what a token does, of the phase's number k, closing x and before the phase q
+
+abbrev pub stepBy : ℕ → Closes → Phase → Text → ℕ → List ℕ → Walk → Step
+stepBy k x q t at keys w =
+    let key = keyAfter k t (w .current .key) in
+    record {
+      walk = record {
+        phase = q;
+        counts = countsAfter (w .counts) (eqb k 7) x;
+        current = currentAfter (w .current) k t (valueAt k t) key;
+        mark = markAfter (w .mark) k (rowAt k key (both (eqb k 0) (held key (take (w .counts .rules) keys))) (valueAt k t) (w .counts) (w .current .low)) at;
+      };
+      value = valueAt k t;
+      closes = x;
+      starts = eqb k 7;
+      ends = eqb k 9;
+    }
+
+abbrev pub nothing : Closes
+nothing = record { relation = false; clause = false; rule = false }
+
+abbrev pub stepAfter : Text → ℕ → List ℕ → Walk → Step
+stepAfter t at keys w =
+    let k = phaseNumber (w .phase) in
+    stepBy k (closesAt k t) (nextPhase (w .phase) (w .current .other) t) t at keys w

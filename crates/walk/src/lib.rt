@@ -3,18 +3,17 @@
 //
 // specs/Steps.antt has the change as definitions; the functions are those. Every function is total.
 ghost use mathlib.Core.Path.{_≡_};
-ghost use lib.Dec.{eqb};
+ghost use mathlib.Core.List.{[]};
 ghost use lib.ListN.{take};
 ghost use Rattle.decimal.specs.Choice.{if_then_else_, both, either};
 ghost use Rattle.token.specs.Spelling.{same};
-ghost use Rattle.token.specs.Token.{differ};
+ghost use Rattle.grammar.specs.Grammar.{other};
 ghost use Rattle.grammar.specs.Limits.{isModulus};
-ghost use Rattle.walk.specs.Steps.{capped, valueAt, keywordNumber, held, moreOf, moreIf, zeroIf, isClosing, closesAt, countsAfter, keyAfter, currentAfter, nameRow, operandRow, valueRow, upperRow, rowAt, markAfter, walkAfter};
+ghost use Rattle.walk.specs.Steps.{capped, keywordNumber, held, moreOf, moreIf, zeroIf, isClosing, closesAt, countsAfter, currentAfter, nameRow, operandRow, valueRow, upperRow, markAfter, stepBy, nothing, stepAfter};
 use decimal::cut::upto;
 use decimal::value::value_of;
 use phase::Phase;
 use phase::next_phase;
-use phase::number;
 use token::first_byte;
 use token::same_text;
 
@@ -63,6 +62,16 @@ pub struct Walk {
     pub mark: Mark,
 }
 
+// What a token does: the walk behind it, its value where the phase has a number next (else 0), what it
+// closes, and whether it starts a range or ends one.
+pub struct Step {
+    pub walk: Walk,
+    pub value: u32,
+    pub closes: Closes,
+    pub starts: bool,
+    pub ends: bool,
+}
+
 const MAX_BYTES: usize = 4096;
 
 const MAX_CLAUSES: usize = 8;
@@ -91,12 +100,6 @@ fn pick_byte(b: bool, x: u8, y: u8) -> u8
     if b { x } else { y }
 }
 
-fn pick_value(b: bool, x: u32, y: u32) -> u32
-    ensures { λ r. ⌜ r ≡ (if b then x else y) ⌝ }
-{
-    if b { x } else { y }
-}
-
 fn pick_place(b: bool, x: usize, y: usize) -> usize
     ensures { λ r. ⌜ r ≡ (if b then x else y) ⌝ }
 {
@@ -112,16 +115,6 @@ pub fn capped_value(t: &[u8]) -> u32
         return v as u32;
     }
     1_000_001
-}
-
-// The value of the token where the phase has a number next, else 0.
-pub fn value_at(k: u8, t: &[u8]) -> u32
-    ensures { λ r. ⌜ r ≡ valueAt k (now (t .entry)) ⌝ }
-{
-    if or_either(k == 5, or_either(k == 7, k == 9)) {
-        return capped_value(t);
-    }
-    0
 }
 
 fn number_if(t: &[u8], w: &[u8], n: u8, otherwise: u8) -> u8
@@ -144,15 +137,6 @@ fn keyword_number(t: &[u8]) -> u8
     number_if(t, b"zero", 0, e)
 }
 
-fn key_after(k: u8, t: &[u8], old: u8) -> u8
-    ensures { λ r. ⌜ r ≡ keyAfter k (now (t .entry)) old ⌝ }
-{
-    if k == 0 {
-        return keyword_number(t);
-    }
-    old
-}
-
 // The key is one of the first n.
 fn held_before(keys: &[u8], n: usize, key: u8) -> bool
     ensures { λ r. ⌜ r ≡ held key (take n (now (keys .entry))) ⌝ }
@@ -164,15 +148,6 @@ fn held_before(keys: &[u8], n: usize, key: u8) -> bool
             return true;
         }
         i += 1;
-    }
-    false
-}
-
-fn repeated(k: u8, keys: &[u8], n: usize, key: u8) -> bool
-    ensures { λ r. ⌜ r ≡ both (eqb k 0) (held key (take n (now (keys .entry)))) ⌝ }
-{
-    if k == 0 {
-        return held_before(keys, n, key);
     }
     false
 }
@@ -223,20 +198,6 @@ fn closed_as(k: u8, t: &[u8]) -> Closes
     }
 }
 
-// What the token closes in a phase: nothing where none is being closed, whatever its spelling.
-pub fn closed_by(k: u8, t: &[u8]) -> Closes
-    ensures { λ r. ⌜ r ≡ closesAt k (now (t .entry)) ⌝ }
-{
-    if or_either(k == 2, is_closing(k)) {
-        return closed_as(k, t);
-    }
-    Closes {
-        relation: false,
-        clause: false,
-        rule: false,
-    }
-}
-
 // The counts behind a token, count by count.
 fn counts_each(c: Counts, value: bool, x: Closes) -> Counts
     ensures { λ r. ⌜ r ≡ countsAfter c value x ⌝ }
@@ -249,42 +210,6 @@ fn counts_each(c: Counts, value: bool, x: Closes) -> Counts
         values: zero_if(x.relation, more_if(value, c.values)),
         joined: zero_if(x.clause, more_if(x.relation, c.joined)),
         parted: zero_if(x.rule, more_if(x.clause, c.parted)),
-    }
-}
-
-// Most tokens change no count.
-pub fn counts_after(c: Counts, value: bool, x: Closes) -> Counts
-    ensures { λ r. ⌜ r ≡ countsAfter c value x ⌝ }
-{
-    let a = or_either(x.clause, x.rule);
-    let b = or_either(x.relation, a);
-    if or_either(value, b) {
-        return counts_each(c, value, x);
-    }
-    c
-}
-
-// The sign behind an operand or a modulus.
-fn sign_after(k: u8, t: &[u8], old: bool) -> bool
-    ensures { λ r. ⌜ r ≡ (if either (eqb k 4) (eqb k 6) then same (now (t .entry)) differ else old) ⌝ }
-{
-    if or_either(k == 4, k == 6) {
-        return same_text(t, b"!=");
-    }
-    old
-}
-
-fn current_after(o: Current, k: u8, t: &[u8], v: u32, key: u8) -> Current
-    ensures { λ r. ⌜ r ≡ currentAfter o k (now (t .entry)) v key ⌝ }
-{
-    let m = pick_value(k == 5, v, o.modulus);
-    Current {
-        key: key,
-        operand: pick_byte(k == 3, first_byte(t), o.operand),
-        modulus: pick_value(k == 3, 0, m),
-        negated: sign_after(k, t, o.negated),
-        low: pick_value(k == 7, v, o.low),
-        other: same_text(t, b"other"),
     }
 }
 
@@ -337,28 +262,6 @@ fn upper_row(v: u32, low: u32) -> u8
     pick_byte(v < low, 24, 0)
 }
 
-// 22 to 26 of a token with this keyword number and value, else 0.
-fn row_at(k: u8, key: u8, again: bool, v: u32, c: Counts, low: u32) -> u8
-    ensures { λ r. ⌜ r ≡ rowAt k key again v c low ⌝ }
-{
-    if k == 0 {
-        return name_row(key, again);
-    }
-    if k == 3 {
-        return operand_row(c.parted, c.joined);
-    }
-    if k == 5 {
-        return pick_byte(is_modulus(v), 0, 23);
-    }
-    if k == 7 {
-        return value_row(v, c.values);
-    }
-    if k == 9 {
-        return upper_row(v, low);
-    }
-    0
-}
-
 fn mark_after(m: Mark, k: u8, row: u8, at: usize) -> Mark
     ensures { λ r. ⌜ r ≡ markAfter m k row at ⌝ }
 {
@@ -369,26 +272,299 @@ fn mark_after(m: Mark, k: u8, row: u8, at: usize) -> Mark
     }
 }
 
-// The walk behind the token t at a place; `keys`: the keyword numbers of the rules so far.
-pub fn walk_after(t: &[u8], at: usize, keys: &[u8], w: Walk) -> Walk
-    ensures { λ r. ⌜ r ≡ walkAfter (now (t .entry)) at (now (keys .entry)) w ⌝ }
+fn none() -> Closes
+    ensures { λ r. ⌜ r ≡ nothing ⌝ }
 {
-    let p = w.phase;
+    Closes {
+        relation: false,
+        clause: false,
+        rule: false,
+    }
+}
+
+fn is_other(t: &[u8]) -> bool
+    ensures { λ r. ⌜ r ≡ same (now (t .entry)) other ⌝ }
+{
+    same_text(t, b"other")
+}
+
+// What is being read, but for whether the token is `other`.
+fn kept(o: Current, t: &[u8]) -> Current
+    ensures { λ r. ⌜ r ≡ currentAfter o 1 (now (t .entry)) 0 (o .key) ⌝ }
+{
+    Current {
+        key: o.key,
+        operand: o.operand,
+        modulus: o.modulus,
+        negated: o.negated,
+        low: o.low,
+        other: is_other(t),
+    }
+}
+
+// A keyword; `keys`: the keyword numbers of the rules so far.
+fn at_name(q: Phase, t: &[u8], at: usize, keys: &[u8], w: Walk) -> Step
+    ensures { λ r. ⌜ r ≡ stepBy 0 nothing q (now (t .entry)) at (now (keys .entry)) w ⌝ }
+{
     let c = w.counts;
     let o = w.current;
     let m = w.mark;
-    let k = number(p);
-    let v = value_at(k, t);
-    let key = key_after(k, t, o.key);
-    let row = row_at(k, key, repeated(k, keys, c.rules, key), v, c, o.low);
-    let q = next_phase(p, o.other, t);
-    let d = counts_after(c, k == 7, closed_by(k, t));
-    let n = current_after(o, k, t, v, key);
-    let f = mark_after(m, k, row, at);
-    Walk {
-        phase: q,
-        counts: d,
-        current: n,
-        mark: f,
+    let key = keyword_number(t);
+    let again = held_before(keys, c.rules, key);
+    Step {
+        walk: Walk {
+            phase: q,
+            counts: c,
+            current: Current {
+                key: key,
+                operand: o.operand,
+                modulus: o.modulus,
+                negated: o.negated,
+                low: o.low,
+                other: is_other(t),
+            },
+            mark: mark_after(m, 0, name_row(key, again), at),
+        },
+        value: 0,
+        closes: none(),
+        starts: false,
+        ends: false,
+    }
+}
+
+// `:`, which changes nothing but the phase.
+fn at_colon(q: Phase, t: &[u8], at: usize, w: Walk) -> Step
+    ensures { λ r. ⌜ r ≡ stepBy 1 nothing q (now (t .entry)) at [] w ⌝ }
+{
+    let c = w.counts;
+    let o = w.current;
+    let m = w.mark;
+    Step {
+        walk: Walk {
+            phase: q,
+            counts: c,
+            current: kept(o, t),
+            mark: mark_after(m, 1, 0, at),
+        },
+        value: 0,
+        closes: none(),
+        starts: false,
+        ends: false,
+    }
+}
+
+fn at_operand(q: Phase, t: &[u8], at: usize, w: Walk) -> Step
+    ensures { λ r. ⌜ r ≡ stepBy 3 nothing q (now (t .entry)) at [] w ⌝ }
+{
+    let c = w.counts;
+    let o = w.current;
+    let m = w.mark;
+    Step {
+        walk: Walk {
+            phase: q,
+            counts: c,
+            current: Current {
+                key: o.key,
+                operand: first_byte(t),
+                modulus: 0,
+                negated: o.negated,
+                low: o.low,
+                other: is_other(t),
+            },
+            mark: mark_after(m, 3, operand_row(c.parted, c.joined), at),
+        },
+        value: 0,
+        closes: none(),
+        starts: false,
+        ends: false,
+    }
+}
+
+// `%`, `=` or `!=`.
+fn at_sign(q: Phase, t: &[u8], at: usize, w: Walk) -> Step
+    ensures { λ r. ⌜ r ≡ stepBy 4 nothing q (now (t .entry)) at [] w ⌝ }
+{
+    let c = w.counts;
+    let o = w.current;
+    let m = w.mark;
+    Step {
+        walk: Walk {
+            phase: q,
+            counts: c,
+            current: Current {
+                key: o.key,
+                operand: o.operand,
+                modulus: o.modulus,
+                negated: same_text(t, b"!="),
+                low: o.low,
+                other: is_other(t),
+            },
+            mark: mark_after(m, 4, 0, at),
+        },
+        value: 0,
+        closes: none(),
+        starts: false,
+        ends: false,
+    }
+}
+
+fn at_modulus(q: Phase, t: &[u8], at: usize, w: Walk) -> Step
+    ensures { λ r. ⌜ r ≡ stepBy 5 nothing q (now (t .entry)) at [] w ⌝ }
+{
+    let c = w.counts;
+    let o = w.current;
+    let m = w.mark;
+    let v = capped_value(t);
+    Step {
+        walk: Walk {
+            phase: q,
+            counts: c,
+            current: Current {
+                key: o.key,
+                operand: o.operand,
+                modulus: v,
+                negated: o.negated,
+                low: o.low,
+                other: is_other(t),
+            },
+            mark: mark_after(m, 5, pick_byte(is_modulus(v), 0, 23), at),
+        },
+        value: v,
+        closes: none(),
+        starts: false,
+        ends: false,
+    }
+}
+
+// A value, which starts a range.
+fn at_value(q: Phase, t: &[u8], at: usize, w: Walk) -> Step
+    ensures { λ r. ⌜ r ≡ stepBy 7 nothing q (now (t .entry)) at [] w ⌝ }
+{
+    let c = w.counts;
+    let o = w.current;
+    let m = w.mark;
+    let v = capped_value(t);
+    Step {
+        walk: Walk {
+            phase: q,
+            counts: counts_each(c, true, none()),
+            current: Current {
+                key: o.key,
+                operand: o.operand,
+                modulus: o.modulus,
+                negated: o.negated,
+                low: v,
+                other: is_other(t),
+            },
+            mark: mark_after(m, 7, value_row(v, c.values), at),
+        },
+        value: v,
+        closes: none(),
+        starts: true,
+        ends: false,
+    }
+}
+
+// What follows a relation or `other:`, and closes x.
+fn at_close(x: Closes, q: Phase, t: &[u8], at: usize, w: Walk) -> Step
+    ensures { λ r. ⌜ r ≡ stepBy 8 x q (now (t .entry)) at [] w ⌝ }
+{
+    let c = w.counts;
+    let o = w.current;
+    let m = w.mark;
+    Step {
+        walk: Walk {
+            phase: q,
+            counts: counts_each(c, false, x),
+            current: kept(o, t),
+            mark: mark_after(m, 8, 0, at),
+        },
+        value: 0,
+        closes: x,
+        starts: false,
+        ends: false,
+    }
+}
+
+// The upper end of a range.
+fn at_upper(q: Phase, t: &[u8], at: usize, w: Walk) -> Step
+    ensures { λ r. ⌜ r ≡ stepBy 9 nothing q (now (t .entry)) at [] w ⌝ }
+{
+    let c = w.counts;
+    let o = w.current;
+    let m = w.mark;
+    let v = capped_value(t);
+    Step {
+        walk: Walk {
+            phase: q,
+            counts: c,
+            current: kept(o, t),
+            mark: mark_after(m, 9, upper_row(v, o.low), at),
+        },
+        value: v,
+        closes: none(),
+        starts: false,
+        ends: true,
+    }
+}
+
+// Any token where nothing makes the pack well-formed.
+fn at_dead(t: &[u8], at: usize, w: Walk) -> Step
+    ensures { λ r. ⌜ r ≡ stepBy 11 nothing Phase.Dead (now (t .entry)) at [] w ⌝ }
+{
+    let c = w.counts;
+    let o = w.current;
+    let m = w.mark;
+    Step {
+        walk: Walk {
+            phase: Phase::Dead,
+            counts: c,
+            current: kept(o, t),
+            mark: mark_after(m, 11, 0, at),
+        },
+        value: 0,
+        closes: none(),
+        starts: false,
+        ends: false,
+    }
+}
+
+// What the token t at a place does; `keys`: the keyword numbers of the rules so far.
+pub fn step_after(t: &[u8], at: usize, keys: &[u8], w: Walk) -> Step
+    ensures { λ r. ⌜ r ≡ stepAfter (now (t .entry)) at (now (keys .entry)) w ⌝ }
+{
+    let p = w.phase;
+    let o = w.current;
+    match p {
+        Phase::Name => at_name(next_phase(Phase::Name, o.other, t), t, at, keys, w),
+        Phase::Colon => at_colon(next_phase(Phase::Colon, o.other, t), t, at, w),
+        Phase::Nothing => at_close(
+            closed_as(2, t),
+            next_phase(Phase::Nothing, o.other, t),
+            t,
+            at,
+            w,
+        ),
+        Phase::Operand => at_operand(next_phase(Phase::Operand, o.other, t), t, at, w),
+        Phase::ModulusOrSign => at_sign(next_phase(Phase::ModulusOrSign, o.other, t), t, at, w),
+        Phase::Modulus => at_modulus(next_phase(Phase::Modulus, o.other, t), t, at, w),
+        Phase::Sign => at_sign(next_phase(Phase::Sign, o.other, t), t, at, w),
+        Phase::Value => at_value(next_phase(Phase::Value, o.other, t), t, at, w),
+        Phase::DotsOrMore => at_close(
+            closed_as(8, t),
+            next_phase(Phase::DotsOrMore, o.other, t),
+            t,
+            at,
+            w,
+        ),
+        Phase::Upper => at_upper(next_phase(Phase::Upper, o.other, t), t, at, w),
+        Phase::More => at_close(
+            closed_as(10, t),
+            next_phase(Phase::More, o.other, t),
+            t,
+            at,
+            w,
+        ),
+        Phase::Dead => at_dead(t, at, w),
     }
 }

@@ -11,6 +11,9 @@ use Rattle.pack_check.proofs.check.Tie as tie
 read-pack-requires : tie.Need-read-pack-requires
 read-pack-requires c κs = search needs
 
+verdict-of-requires : tie.Need-verdict-of-requires
+verdict-of-requires c κs = search needs
+
 enum-told : tie.Need-enum-told
 enum-told c = search needs
 
@@ -25,22 +28,25 @@ enum-known-verdict c = search needs
 
 returns : tie.Need-returns
 returns c =
-    let a = c .before .before .before .before .before .before .args in
-    let p = c .before .before .before .before .read-pack in
+    let a = c .before .before .before .before .before .before .before .args in
+    let p = c .before .before .before .before .before .read-pack in
+    let v = c .before .before .before .before .verdict-of in
     c .checked-by .ensures ∙ ap checkedBy (c .before .check .ensures)
-    ∙ good (readPack (a .pack .now)) (p .result .verdict) (heldRules (p .result .pack)) (p .ensures .0) (c .before .before .enum-told .given .1) (p .ensures .1)
+    ∙ good (readPack (a .pack .now)) (v .result) (heldRules (p .result)) (v .ensures ∙ p .ensures .0) (c .before .before .enum-told .given .1) (p .ensures .1)
 
 returns-2 : tie.Need-returns-2
 returns-2 c =
-    let a = c .before .before .before .before .before .args in
-    let p = c .before .before .before .read-pack in
-    bad (readPack (a .pack .now)) (p .result .verdict) _ (p .ensures .0) (c .before .verdict .given .1)
+    let a = c .before .before .before .before .before .before .args in
+    let p = c .before .before .before .before .read-pack in
+    let v = c .before .before .before .verdict-of in
+    bad (readPack (a .pack .now)) (v .result) _ (v .ensures ∙ p .ensures .0) (c .before .verdict .given .1)
 
 pub check-spec : {M : Type 1} → statement M
 check-spec =
     tie.close
     (tie.spec
     read-pack-requires
+    verdict-of-requires
     enum-told
     check-requires
     checked-by-requires
