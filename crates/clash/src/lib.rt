@@ -55,6 +55,12 @@ pub struct Bounds {
     pub period: u64,
 }
 
+// Past the numbers that remainders rule out, and the steps left; 0 where they did not suffice.
+pub struct Sifted {
+    pub least: u64,
+    pub left: u64,
+}
+
 // The operands of a number that the search found; e is past the largest where it found none.
 pub struct Spot {
     pub e: u64,
