@@ -6,6 +6,7 @@ use mathlib.Core.Logic.{_⊎_, ⊎-elim}
 use Prim.Native.Nat.{ℕ, suc, _+_, _-_, _%_, _≤_, _<_}
 use native.Mathlib.Omega.{arith}
 use native.Mathlib.Numerals.{add-one}
+use lib.Dec.{eqb}
 use borrow.Author.Tests.{eq-eqb, ne-eqb}
 use Rattle.decimal.specs.Choice.{if_then_else_, both}
 use Rattle.rules.specs.Syntax.{Relation}
@@ -70,3 +71,11 @@ hop-less {P} {end} {x} {y} h n = ⊎-elim (λ k. k) (λ k. absurd (n (omega (ari
 -- the window ends within the range
 pub end-le : (q : Query) (c : List Relation) (lo hi end : ℕ) → lo ≤ hi → end ≡ searchEnd q c lo hi → end ≤ hi
 end-le q c lo hi end h e = subst (λ (u : ℕ). u ≤ hi) (sym e) (search-enough q c lo hi h .stop)
+
+-- ---- the steps of the next turn
+
+pub after-none : (left steps more : ℕ) → left ≡ 0 → more ≡ (if eqb left 0 then more else steps)
+after-none left steps more e = rw (eq-eqb left 0 e)
+
+pub after-some : (left steps more : ℕ) → (left ≡ 0 → ⊥) → steps ≡ (if eqb left 0 then more else steps)
+after-some left steps more n = rw (ne-eqb left 0 n)

@@ -7,17 +7,17 @@ use Prim.Native.Nat.{ℕ, suc, _+_, _-_, _*_, _/_, _%_, _≤_, _<_, min}
 use native.Mathlib.Omega.{arith}
 use native.Mathlib.Nat.{mul-assoc, add-mul-mod-self-right, add-mod-right, div-add-mod', mod-lt, mod-le, mod-self, mod-add-mod, mod-eq-of-lt, mul-le-mul-right}
 use lib.Dec.{eqb, leb, ltb}
-use borrow.Author.Tests.{eqb-true, eqb-false, eq-eqb, ne-eqb, le-leb, leb-true, lt-ltb, le-ltb, not-true}
+use borrow.Author.Tests.{eqb-true, eqb-false, eq-eqb, ne-eqb, le-leb, leb-true, lt-ltb, le-ltb, ltb-false, not-true}
 use Rattle.decimal.specs.Choice.{if_then_else_, both, either}
 use Rattle.decimal.proofs.Choices.{choice, tested, not-both}
 use Rattle.rules.specs.Syntax.{Range, Relation}
 use Rattle.plural.specs.Meaning.{any, all, inRange}
-use Rattle.least.proofs.Seeking.{split, and-true, and-false-left, or-true-left, or-true-right, least-none, least-one}
+use Rattle.least.proofs.Seeking.{split, and-true, and-false-left, or-true-left, or-true-right}
 use Rattle.rules.specs.Stretch.{rangeAt, rangesIn}
 use Rattle.rules.proofs.Stretches.{stretch-cons, stretch-nil}
-use Rattle.clash_laws.specs.Fast.{Query, factor, test, passes, ends, passesAll, search}
-use Rattle.clash_laws.specs.Sieve.{reached, reachedAny, fits, allows, mayPass}
-use Rattle.clash_laws.proofs.Leaping.{both-held, search-least}
+use Rattle.clash_laws.specs.Fast.{Query, factor, test, passes, ends, passesAll}
+use Rattle.clash_laws.specs.Sieve.{firstFrom, reached, reachedAny, fits, allows, mayPass}
+use Rattle.clash_laws.proofs.Leaping.{both-held}
 
 -- ---- remainders
 
@@ -45,9 +45,9 @@ times-rem x s m k e =
 
 -- ---- a number of the range that has the remainder
 
-reached-by : (m z a b y : ℕ) → 0 < m → y % m ≡ z % m → a ≤ y → y ≤ b → reached m z a b ≡ true
-unfolding reached
-reached-by m z a b y pos e l h = le-leb (a + (z + (m - a % m)) % m) b (omega (arith, far, mod-le (y - a) m))
+first-least : (m z a y : ℕ) → 0 < m → y % m ≡ z % m → a ≤ y → firstFrom m z a ≤ y
+unfolding firstFrom
+first-least m z a y pos e l = omega (arith, far, mod-le (y - a) m)
   where
     on : (k r : ℕ) → k * m + r ≡ a → r < m → y + (m - r) ≡ y - a + suc k * m
     on k r p q = omega arith
@@ -57,16 +57,24 @@ reached-by m z a b y pos e l h = le-leb (a + (z + (m - a % m)) % m) b (omega (ar
         sym (mod-add-mod z m (m - a % m)) ∙ ap (λ (u : ℕ). (u + (m - a % m)) % m) (sym e) ∙ mod-add-mod y m (m - a % m)
         ∙ ap (λ (u : ℕ). u % m) (on (a / m) (a % m) (div-add-mod' a m) (mod-lt a pos)) ∙ add-mul-mod-self-right (y - a) (suc (a / m)) m
 
--- what the code works out, in either case
-pub reach-near : (m z a b u : ℕ) (c : Bool) → z < m → u ≡ z + (m - a % m) → u < m → c ≡ leb (a + u) b → c ≡ reached m z a b
+reached-by : (m z a b y : ℕ) → 0 < m → y % m ≡ z % m → a ≤ y → y ≤ b → reached m z a b ≡ true
 unfolding reached
-reach-near m z a b u c h e l g = g ∙ ap (λ (t : ℕ). leb (a + t) b) (sym (mod-eq-of-lt l) ∙ ap (λ (t : ℕ). t % m) e)
+reached-by m z a b y pos e l h = le-leb (firstFrom m z a) b (omega (arith, first-least m z a y pos e l))
 
-pub reach-round : (m z a b u : ℕ) (c : Bool) → z < m → u ≡ z + (m - a % m) → m ≤ u → c ≡ leb (a + (u - m)) b → c ≡ reached m z a b
+pub reach-is : (m z a b f : ℕ) → f ≡ firstFrom m z a → leb f b ≡ reached m z a b
 unfolding reached
-reach-round m z a b u c h e l g =
-    g ∙ ap (λ (t : ℕ). leb (a + t) b)
-    (sym (mod-eq-of-lt {n = u - m} {m = m} (omega (arith, e))) ∙ sym (add-mod-right (u - m) m) ∙ ap (λ (t : ℕ). t % m) (let k : u - m + m ≡ z + (m - a % m) = omega (arith, e) in k))
+reach-is m z a b f e = ap (λ (t : ℕ). leb t b) e
+
+-- what the code works out, in either case
+pub first-near : (m z x u : ℕ) → u ≡ z + (m - x % m) → u < m → x + u ≡ firstFrom m z x
+unfolding firstFrom
+first-near m z x u e l = ap (λ (t : ℕ). x + t) (sym (mod-eq-of-lt l) ∙ ap (λ (t : ℕ). t % m) e)
+
+pub first-round : (m z x u : ℕ) → z < m → u ≡ z + (m - x % m) → m ≤ u → x + (u - m) ≡ firstFrom m z x
+unfolding firstFrom
+first-round m z x u h e l =
+    ap (λ (t : ℕ). x + t)
+    (sym (mod-eq-of-lt {n = u - m} {m = m} (omega (arith, e))) ∙ sym (add-mod-right (u - m) m) ∙ ap (λ (t : ℕ). t % m) (let k : u - m + m ≡ z + (m - x % m) = omega (arith, e) in k))
 
 any-reached : (w m z y : ℕ) → 0 < m → y < w → y % m ≡ z % m → (rs : List Range) → any (inRange y) rs ≡ true → reachedAny w m z rs ≡ true
 unfolding reachedAny
@@ -223,9 +231,6 @@ none-left q m d c b pos ten f h x e =
     not-both (and-true (ends-of q m x ten ∙ p .0) (all-allows q m x c pos (p .1))) (subst (λ (u : ℕ). both (ends q u) (all (allows q m u) c) ≡ false) (sym e) (sym f ∙ h)))
     (λ k. k)
 
-pub search-none : (q : Query) (c : List Relation) (lo hi : ℕ) → lo ≤ hi → ((x : ℕ) → passesAll q c x ≡ false) → hi ≡ search q c lo hi
-search-none q c lo hi h n = least-one (least-none (passesAll q c) lo hi h (λ j _ _. n j)) (search-least q c lo hi h)
-
 -- ---- the last digit, and the clause
 
 pub ends-any : (q : Query) (d : ℕ) → q .odd ≡ false → true ≡ ends q d
@@ -260,25 +265,43 @@ apart m d y h e = go (d / m) (y / m) (d % m) (div-add-mod' d m) (ap (λ (u : ℕ
 ten-times : (m : ℕ) → 10 * m % m ≡ 0
 ten-times m = ap (λ (u : ℕ). u % m) (let g : 10 * m ≡ 0 + 10 * m = omega arith in g) ∙ add-mul-mod-self-right 0 10 m ∙ (let g : 0 % m ≡ 0 = omega (arith, mod-le 0 m) in g)
 
-module _ (P : ℕ → Bool) where
-  -- P fails for each number whose remainder by m is that of d, and by 10 * m is d or more
-  abbrev pub Out : ℕ → ℕ → Type 0
-  Out m d = (x : ℕ) → d ≤ x % (10 * m) → x % m ≡ d % m → P x ≡ false
+module _ (P : ℕ → Bool) (from : ℕ) where
+  -- P fails for each number from `from` to before b whose remainder by m is that of d, and by 10 * m is d or more
+  abbrev pub Out : ℕ → ℕ → ℕ → Type 0
+  Out m d b = (x : ℕ) → from ≤ x → x < b → d ≤ x % (10 * m) → x % m ≡ d % m → P x ≡ false
 
-  module _ (m d : ℕ) (pos : 0 < m) where
-    pub out-end : 10 * m ≤ d → Out m d
-    out-end h x l e = let g = mod-lt x {m = 10 * m} (omega arith) in absurd (omega arith)
+  -- and whose remainder by n is d
+  abbrev pub Gone : ℕ → ℕ → ℕ → Type 0
+  Gone n d b = (x : ℕ) → from ≤ x → x < b → x % n ≡ d → P x ≡ false
 
-    pub out-more : ((x : ℕ) → x % (10 * m) ≡ d → P x ≡ false) → Out m (d + m) → Out m d
-    out-more f o x l e =
+  -- there is none before the first of them
+  pub gone-first : (n d y b : ℕ) → d < n → y ≡ firstFrom n d from → b ≤ y → Gone n d b
+  gone-first n d y b h e l x u v g =
+      let f = first-least n d from x (let p : 0 < n = omega arith in p) (g ∙ sym (mod-eq-of-lt h)) u in
+      absurd (omega arith)
+
+  module _ (m d b : ℕ) (pos : 0 < m) where
+    pub out-end : 10 * m ≤ d → Out m d b
+    out-end h x u v l e = let g = mod-lt x {m = 10 * m} (omega arith) in absurd (omega arith)
+
+    pub out-more : Gone (10 * m) d b → Out m (d + m) b → Out m d b
+    out-more f o x u v l e =
         ⊎-elim
-        (λ k. o x (apart m d (x % (10 * m)) k (rem-rem x (10 * m) m (ten-times m) ∙ e)) (e ∙ sym (add-mod-right d m)))
-        (λ k. f x (omega arith)) (split d (x % (10 * m)))
+        (λ k. o x u v (apart m d (x % (10 * m)) k (rem-rem x (10 * m) m (ten-times m) ∙ e)) (e ∙ sym (add-mod-right d m)))
+        (λ k. f x u v (omega arith)) (split d (x % (10 * m)))
 
-    pub out-down : d < 10 * m → Out (10 * m) d → (x : ℕ) → x % (10 * m) ≡ d → P x ≡ false
-    out-down h o x e =
+    pub out-down : (c : ℕ) → b ≤ c → d < 10 * m → Out (10 * m) d c → Gone (10 * m) d b
+    out-down c l h o x u v e =
         let g : x % (10 * (10 * m)) % (10 * m) ≡ x % (10 * m) = rem-rem x (10 * (10 * m)) (10 * m) (ten-times (10 * m)) in
-        o x (omega (arith, mod-le (x % (10 * (10 * m))) (10 * m))) (e ∙ sym (mod-eq-of-lt h))
+        o x u (omega arith) (omega (arith, mod-le (x % (10 * (10 * m))) (10 * m))) (e ∙ sym (mod-eq-of-lt h))
+
+-- a remainder that is not worth a look
+pub not-worth : (q : Query) (n d : ℕ) (c : List Relation) (from y best b : ℕ) (w : Bool) → d < n → n % 10 ≡ 0 → y ≡ firstFrom n d from → b ≤ best
+    → w ≡ both (ltb y best) (mayPass q n d c) → w ≡ false → Gone (passesAll q c) from n d b
+not-worth q n d c from y best b w h ten e l f g =
+    tested (ltb y best)
+    (λ k x u v z. none-left q n d c (mayPass q n d c) (omega arith) ten refl (sym (ap (λ (t : Bool). both t (mayPass q n d c)) k) ∙ sym f ∙ g) x z)
+    (λ k. let o = ltb-false y best k in gone-first (passesAll q c) from n d y b h e (omega arith))
 
 -- ---- what was settled before
 
@@ -287,6 +310,12 @@ not-past m w n h = sym (and-false-left (ltb w n) (le-ltb 10 m h))
 
 pub is-past : (m w n : ℕ) → 10 < m → ltb w n ≡ both (ltb 10 m) (ltb w n)
 is-past m w n h = sym (ap (λ (x : Bool). both x (ltb w n)) (lt-ltb 10 m h))
+
+pub worth-not : (y best : ℕ) (p : Bool) → best ≤ y → false ≡ both (ltb y best) p
+worth-not y best p h = sym (and-false-left p (le-ltb y best h))
+
+pub worth-if : (y best : ℕ) (p b : Bool) → y < best → b ≡ p → b ≡ both (ltb y best) p
+worth-if y best p b h e = e ∙ sym (ap (λ (x : Bool). both x p) (lt-ltb y best h))
 
 -- ---- room
 

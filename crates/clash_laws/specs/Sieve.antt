@@ -8,9 +8,13 @@ use Rattle.rules.specs.Syntax.{Range, Relation}
 use Rattle.plural.specs.Meaning.{any, all}
 use Rattle.clash_laws.specs.Fast.{Query, factor, asked, test, ends}
 
--- one of the numbers from a to b has the remainder of z by m
+-- the first number from x on whose remainder by m is z
+unfoldable pub firstFrom : ℕ → ℕ → ℕ → ℕ
+firstFrom m z x = x + (z + (m - x % m)) % m
+
+-- one of the numbers from a to b has that remainder
 unfoldable pub reached : ℕ → ℕ → ℕ → ℕ → Bool
-reached m z a b = leb (a + (z + (m - a % m)) % m) b
+reached m z a b = leb (firstFrom m z a) b
 
 -- one of the remainders by w in the ranges has it
 unfoldable pub reachedAny : ℕ → ℕ → ℕ → List Range → Bool

@@ -21,6 +21,12 @@ pub struct Bounds {
     pub period: u64,
 }
 
+// Past the numbers that remainders rule out, and the steps left; 0 where they did not suffice.
+pub struct Sifted {
+    pub least: u64,
+    pub left: u64,
+}
+
 const RELATIONS: usize = 320;
 
 // 10^18: no value that is compared is above it

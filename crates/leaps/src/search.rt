@@ -3,6 +3,8 @@ ghost use mathlib.Core.Path.{_≡_};
 ghost use mathlib.Core.List.{List};
 ghost use mathlib.Core.Bool.{false};
 ghost use Prim.Native.Nat.{ℕ, _≤_, _<_};
+ghost use lib.Dec.{eqb};
+ghost use Rattle.decimal.specs.Choice.{if_then_else_};
 ghost use Rattle.clash_laws.specs.Fast.{leapEnd, passesAll, search};
 ghost use Rattle.rules.specs.Stretch.{table};
 ghost use Rattle.clash_laws.specs.Read.{cap, joinedIn};
@@ -111,9 +113,18 @@ fn leap_on<'a>(
     y
 }
 
-// The least number from lo on and below hi that passes, or hi: by leaps, and by remainders where some
-// leaps have not found it. Each turn takes four times as many leaps, and as many remainders as the
-// leaps of the next one.
+// The leaps of the next turn: more where the steps of this one did not suffice.
+fn steps_after(left: u64, steps: u64, more: u64) -> u64
+    ensures { λ r. ⌜ r ≡ (if eqb left 0 then more else steps) ⌝ }
+{
+    if left == 0 {
+        return more;
+    }
+    steps
+}
+
+// The least number from lo on and below hi that passes, or hi. Each turn takes some leaps, and where
+// they have not found it, goes on past what remainders rule out.
 pub fn least_number<'a>(
     operand: &'a [u8; 320],
     modulus: &'a [u32; 320],
@@ -153,12 +164,26 @@ pub fn least_number<'a>(
         if z == y {
             return y;
         }
-        let more = 4 * leap::lesser(steps, MOST_STEPS);
-        if sieve::blocked(operand, modulus, negated, ranges, low, high, s, q, hi, more) {
+        if end <= z {
             return hi;
         }
-        x = z;
-        steps = more;
+        let more = 4 * leap::lesser(steps, MOST_STEPS);
+        let f = sieve::sift_from(
+            operand,
+            modulus,
+            negated,
+            ranges,
+            low,
+            high,
+            s,
+            q,
+            hi,
+            z,
+            end,
+            more,
+        );
+        x = f.least;
+        steps = steps_after(f.left, steps, more);
     }
     hi
 }

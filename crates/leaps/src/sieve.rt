@@ -7,10 +7,11 @@ ghost use lib.Dec.{ltb};
 ghost use Rattle.decimal.specs.Choice.{both};
 ghost use Rattle.plural.specs.Meaning.{all};
 ghost use Rattle.clash_laws.specs.Fast.{ends, passesAll};
-ghost use Rattle.clash_laws.specs.Sieve.{reached, reachedAny, allows, mayPass};
+ghost use Rattle.clash_laws.specs.Sieve.{firstFrom, reached, reachedAny, allows, mayPass};
 ghost use Rattle.rules.specs.Stretch.{rangesIn, table, relationAt, relationsIn};
 ghost use Rattle.clash_laws.specs.Read.{cap, joinedIn};
 ghost use Rattle.clash_laws.specs.Hop.{Room};
+use crate::Sifted;
 use crate::leap;
 use crate::relation;
 use clash_laws::Query;
@@ -19,16 +20,24 @@ use clash_laws::Span;
 // The largest power of ten by which remainders are tried: no modulus is larger.
 const LAST_POWER: u64 = 1_000_000;
 
-// Whether one of the numbers from a to b has the remainder of z by m.
+// The first number from x on whose remainder by m is z.
+fn first_from(x: u64, m: u64, z: u64) -> u64
+    requires { ⌜ (z < m) × (m ≤ cap) × (x ≤ cap) ⌝ }
+    ensures { λ r. ⌜ r ≡ firstFrom m z x ⌝ }
+{
+    let up = z + (m - x % m);
+    if up < m {
+        return x + up;
+    }
+    x + (up - m)
+}
+
+// Whether one of the numbers from a to b has that remainder.
 fn reaches(m: u64, z: u64, a: u32, b: u64) -> bool
     requires { ⌜ (z < m) × (m ≤ cap) ⌝ }
     ensures { λ r. ⌜ r ≡ reached m z a b ⌝ }
 {
-    let up = z + (m - (a as u64) % m);
-    if up < m {
-        return (a as u64) + up <= b;
-    }
-    (a as u64) + (up - m) <= b
+    first_from(a as u64, m, z) <= b
 }
 
 // Whether a remainder by w has it, in the ranges from place `from` to before `to`.
@@ -193,10 +202,45 @@ fn may_pass<'a>(
     )
 }
 
-// Rules out the numbers whose remainder by m is that of d, and by 10 * m is d or more: by the
-// remainder by 10 * m, and where that does not do, by one more digit. The steps left, or 0 where they
-// do not suffice or a remainder is left.
-fn rule_out<'a>(
+// Whether a number may pass whose remainder by m is d, and the first such number y comes before best.
+fn worth<'a>(
+    operand: &'a [u8; 320],
+    modulus: &'a [u32; 320],
+    negated: &'a [bool; 320],
+    ranges: &'a [usize; 320],
+    low: &'a [u32; 2048],
+    high: &'a [u32; 2048],
+    s: Span,
+    q: Query,
+    m: u64,
+    d: u64,
+    y: u64,
+    best: u64,
+) -> bool
+    requires { ⌜ Room q m × (d < m) × (s .to ≤ 320) × (s .stop ≤ 320) ⌝ }
+    ensures { λ r. ⌜ r ≡ both (ltb y best) (mayPass q m d (joinedIn (table (now (operand .entry)) (now (modulus .entry)) (now (negated .entry)) (now (ranges .entry)) (now (low .entry)) (now (high .entry))) s)) ⌝ }
+{
+    if best <= y {
+        return false;
+    }
+    may_pass(operand, modulus, negated, ranges, low, high, s, q, m, d)
+}
+
+// Whether no larger power of ten is tried in a search below hi.
+fn is_last(next: u64, hi: u64) -> bool
+    requires { ⌜ next ≤ cap ⌝ }
+    ensures { λ r. ⌜ (r ≡ false → 10 * next ≤ hi) ⌝ }
+{
+    if LAST_POWER <= next {
+        return true;
+    }
+    hi < 10 * next
+}
+
+// Of the numbers from `from` on whose remainder by m is that of d, and by 10 * m is d or more, none
+// passes before `least`, where steps are left: remainders by 10 * m, and where one is left, by one
+// more digit. `best` is the least known.
+fn sift<'a>(
     operand: &'a [u8; 320],
     modulus: &'a [u32; 320],
     negated: &'a [bool; 320],
@@ -206,25 +250,44 @@ fn rule_out<'a>(
     s: Span,
     q: Query,
     hi: u64,
+    from: u64,
     m: u64,
     d: u64,
+    best: u64,
     steps: u64,
-) -> u64
-    requires { ⌜ Room q hi × (0 < m) × (m ≤ 1_000_000) × (s .to ≤ 320) × (s .stop ≤ 320) ⌝ }
-    ensures { λ r. ⌜ (0 < r → (x : ℕ) → d ≤ x % (10 * m) → x % m ≡ d % m → passesAll q (joinedIn (table (now (operand .entry)) (now (modulus .entry)) (now (negated .entry)) (now (ranges .entry)) (now (low .entry)) (now (high .entry))) s) x ≡ false) × (r ≤ steps) ⌝ }
+) -> Sifted
+    requires { ⌜ Room q hi × (0 < m) × (10 * m ≤ hi) × (from ≤ cap) × (s .to ≤ 320) × (s .stop ≤ 320) ⌝ }
+    ensures { λ r. ⌜ (0 < r .left → (x : ℕ) → from ≤ x → x < r .least → d ≤ x % (10 * m) → x % m ≡ d % m → passesAll q (joinedIn (table (now (operand .entry)) (now (modulus .entry)) (now (negated .entry)) (now (ranges .entry)) (now (low .entry)) (now (high .entry))) s) x ≡ false) × (r .left ≤ steps) × (r .least ≤ best) ⌝ }
 {
     let next = 10 * m;
     if next <= d {
-        return steps;
+        return Sifted {
+            least: best,
+            left: steps,
+        };
     }
     if steps == 0 {
-        return 0;
+        return Sifted {
+            least: best,
+            left: 0,
+        };
     }
-    if hi < next {
-        return 0;
-    }
-    if !may_pass(operand, modulus, negated, ranges, low, high, s, q, next, d) {
-        return rule_out(
+    let y = first_from(from, next, d);
+    if !worth(
+        operand,
+        modulus,
+        negated,
+        ranges,
+        low,
+        high,
+        s,
+        q,
+        next,
+        d,
+        y,
+        best,
+    ) {
+        return sift(
             operand,
             modulus,
             negated,
@@ -234,15 +297,32 @@ fn rule_out<'a>(
             s,
             q,
             hi,
+            from,
             m,
             d + m,
+            best,
             steps - 1,
         );
     }
-    if LAST_POWER <= next {
-        return 0;
+    if is_last(next, hi) {
+        return sift(
+            operand,
+            modulus,
+            negated,
+            ranges,
+            low,
+            high,
+            s,
+            q,
+            hi,
+            from,
+            m,
+            d + m,
+            leap::lesser(y, best),
+            steps - 1,
+        );
     }
-    let left = rule_out(
+    let inner = sift(
         operand,
         modulus,
         negated,
@@ -252,14 +332,19 @@ fn rule_out<'a>(
         s,
         q,
         hi,
+        from,
         next,
         d,
+        best,
         steps - 1,
     );
-    if left == 0 {
-        return 0;
+    if inner.left == 0 {
+        return Sifted {
+            least: best,
+            left: 0,
+        };
     }
-    rule_out(
+    sift(
         operand,
         modulus,
         negated,
@@ -269,14 +354,16 @@ fn rule_out<'a>(
         s,
         q,
         hi,
+        from,
         m,
         d + m,
-        left,
+        inner.least,
+        inner.left,
     )
 }
 
-// Whether remainders rule out, in so many steps, that a number below hi passes.
-pub fn blocked<'a>(
+// From x on past numbers below `end` that remainders rule out, in so many steps, for a search below hi.
+pub fn sift_from<'a>(
     operand: &'a [u8; 320],
     modulus: &'a [u32; 320],
     negated: &'a [bool; 320],
@@ -286,13 +373,18 @@ pub fn blocked<'a>(
     s: Span,
     q: Query,
     hi: u64,
+    x: u64,
+    end: u64,
     steps: u64,
-) -> bool
-    requires { ⌜ Room q hi × (s .to ≤ 320) × (s .stop ≤ 320) ⌝ }
-    ensures { λ r. ⌜ (r ≡ true → (x : ℕ) → passesAll q (joinedIn (table (now (operand .entry)) (now (modulus .entry)) (now (negated .entry)) (now (ranges .entry)) (now (low .entry)) (now (high .entry))) s) x ≡ false) ⌝ }
+) -> Sifted
+    requires { ⌜ Room q hi × (x ≤ cap) × (s .to ≤ 320) × (s .stop ≤ 320) ⌝ }
+    ensures { λ r. ⌜ (x ≤ r .least) × ((j : ℕ) → x ≤ j → j < r .least → passesAll q (joinedIn (table (now (operand .entry)) (now (modulus .entry)) (now (negated .entry)) (now (ranges .entry)) (now (low .entry)) (now (high .entry))) s) j ≡ false) ⌝ }
 {
+    if hi < 10 {
+        return Sifted { least: x, left: 0 };
+    }
     let first: u64 = 0;
-    let left = rule_out(
+    let f = sift(
         operand,
         modulus,
         negated,
@@ -302,9 +394,18 @@ pub fn blocked<'a>(
         s,
         q,
         hi,
+        x,
         1,
         first,
+        end,
         steps,
     );
-    0 < left
+    if f.left == 0 {
+        return Sifted { least: x, left: 0 };
+    }
+    let least = leap::greater(x, f.least);
+    Sifted {
+        least: least,
+        left: f.left,
+    }
 }

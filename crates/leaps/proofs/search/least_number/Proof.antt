@@ -7,7 +7,6 @@ use Rattle.clash_laws.specs.Fast.{passesAll}
 use Rattle.rules.specs.Stretch.{table}
 use Rattle.clash_laws.specs.Read.{joinedIn}
 use Rattle.clash_laws.proofs.Hopping.{room-le}
-use Rattle.clash_laws.proofs.Sieving.{search-none}
 use Rattle.clash_laws.proofs.Searching.{none-on, search-found, search-ended, hop-less, end-le}
 use borrow.Author.Needs.{needs}
 use Rattle.leaps.proofs.search.least_number.Statement.{statement}
@@ -70,39 +69,54 @@ returns-2 c =
     let f = none-on P (a .lo) (l .loop .x) (g .result) (l .loop .inv .1) (g .ensures .1) in
     search-found (a .q) (joinedIn T (a .s)) (a .lo) (a .hi) (e .result) (g .result) (s .pre .0) (e .ensures) (omega (arith, l .loop .inv .0, g .ensures .0)) f (c .before .leap-all .result) (search needs) (c .before .leap-all .ensures) (search needs)
 
+returns-3 : tie.Need-returns-3 Inv-loop μ-loop
+returns-3 c =
+    let l = c .before .before .before .before .before .before in
+    let e = l .before .window-end in
+    let s = l .before .before in
+    let a = s .args in
+    let T = table (a .operand .now) (a .modulus .now) (a .negated .now) (a .ranges .now) (a .low .now) (a .high .now) in
+    let P = passesAll (a .q) (joinedIn T (a .s)) in
+    let g = c .before .before .before .before .leap-on in
+    let f = none-on P (a .lo) (l .loop .x) (g .result) (l .loop .inv .1) (g .ensures .1) in
+    let h = c .before .before .leap-all in
+    search-ended (a .q) (joinedIn T (a .s)) (a .lo) (a .hi) (e .result) (h .result) (s .pre .0) (e .ensures) (omega (arith, l .loop .inv .0, g .ensures .0, h .ensures .low)) (none-on P (a .lo) (g .result) (h .result) f (h .ensures .none)) (search needs)
+
 lesser-requires : tie.Need-lesser-requires Inv-loop μ-loop
 lesser-requires c κs = search needs
 
 mul-more : tie.Need-mul-more Inv-loop μ-loop
 mul-more c = omega (arith, c .lesser .ensures)
 
-blocked-requires : tie.Need-blocked-requires Inv-loop μ-loop
-blocked-requires c κs =
-    let s = c .before .before .before .before .before .before .before .before in
-    (s .pre .1, s .pre .2, s .pre .3)
-
-returns-3 : tie.Need-returns-3 Inv-loop μ-loop
-returns-3 c =
-    let s = c .before .before .before .before .before .before .before .before .before .before in
-    let a = s .args in
-    let T = table (a .operand .now) (a .modulus .now) (a .negated .now) (a .ranges .now) (a .low .now) (a .high .now) in
-    search-none (a .q) (joinedIn T (a .s)) (a .lo) (a .hi) (s .pre .0) (c .before .blocked .ensures (c .if3 .taken))
-
-loop-less : tie.Need-loop-less Inv-loop μ-loop
-loop-less c = omega (arith, hop-less (c .before .before .before .before .leap-all .ensures) (search needs), c .before .before .before .before .before .before .leap-on .ensures .0)
-
-loop-again : tie.Need-loop-again Inv-loop μ-loop
-loop-again c =
-    let l = c .before .before .before .before .before .before .before .before in
+sift-from-requires : tie.Need-sift-from-requires Inv-loop μ-loop
+sift-from-requires c κs =
+    let l = c .before .before .before .before .before .before .before in
     let e = l .before .window-end in
     let s = l .before .before in
     let a = s .args in
     let T = table (a .operand .now) (a .modulus .now) (a .negated .now) (a .ranges .now) (a .low .now) (a .high .now) in
     let P = passesAll (a .q) (joinedIn T (a .s)) in
-    let g = c .before .before .before .before .before .before .leap-on in
+    (s .pre .1, omega (arith, s .pre .1 .self, end-le (a .q) (joinedIn T (a .s)) (a .lo) (a .hi) (e .result) (s .pre .0) (e .ensures), c .before .if3 .left), s .pre .2, s .pre .3)
+
+steps-after-requires : tie.Need-steps-after-requires Inv-loop μ-loop
+steps-after-requires c κs = search needs
+
+loop-less : tie.Need-loop-less Inv-loop μ-loop
+loop-less c = omega (arith, hop-less (c .before .before .before .before .before .leap-all .ensures) (c .before .before .before .before .if2 .left), c .before .before .before .before .before .before .before .leap-on .ensures .0, c .before .sift-from .ensures .0)
+
+loop-again : tie.Need-loop-again Inv-loop μ-loop
+loop-again c =
+    let l = c .before .before .before .before .before .before .before .before .before in
+    let e = l .before .window-end in
+    let s = l .before .before in
+    let a = s .args in
+    let T = table (a .operand .now) (a .modulus .now) (a .negated .now) (a .ranges .now) (a .low .now) (a .high .now) in
+    let P = passesAll (a .q) (joinedIn T (a .s)) in
+    let g = c .before .before .before .before .before .before .before .leap-on in
     let f = none-on P (a .lo) (l .loop .x) (g .result) (l .loop .inv .1) (g .ensures .1) in
-    let h = c .before .before .before .before .leap-all in
-    (omega (arith, h .ensures .low, l .loop .inv .0, g .ensures .0), none-on P (a .lo) (g .result) (h .result) f (h .ensures .none))
+    let h = c .before .before .before .before .before .leap-all in
+    let i = c .before .sift-from in
+    (omega (arith, i .ensures .0, h .ensures .low, l .loop .inv .0, g .ensures .0), none-on P (a .lo) (h .result) (i .result .least) (none-on P (a .lo) (g .result) (h .result) f (h .ensures .none)) (i .ensures .1))
 
 returns-4 : tie.Need-returns-4 Inv-loop μ-loop
 returns-4 c =
@@ -126,10 +140,11 @@ least-number-spec =
     returns
     leap-all-requires
     returns-2
+    returns-3
     lesser-requires
     mul-more
-    blocked-requires
-    returns-3
+    sift-from-requires
+    steps-after-requires
     loop-less
     loop-again
     returns-4)

@@ -1,40 +1,16 @@
--- `leaps::sieve::reaches`: the nearest number from a on that has the remainder is at most b.
-use native.Mathlib.Omega.{arith}
-use native.Mathlib.Nat.{mod-lt}
-use Prim.Native.Nat.{_+_, _-_, _%_, _<_}
-use mathlib.Core.Path.{refl}
-use Rattle.clash_laws.proofs.Sieving.{reach-near, reach-round}
+-- `leaps::sieve::reaches`: the first number from a on that has the remainder is at most b.
+use Rattle.clash_laws.proofs.Sieving.{reach-is}
 use borrow.Author.Needs.{needs}
 use Rattle.leaps.proofs.sieve.reaches.Statement.{statement}
 use Rattle.leaps.proofs.sieve.reaches.Tie as tie
 
-rem-up : tie.Need-rem-up
-rem-up c = search needs
-
-sub-up : tie.Need-sub-up
-sub-up c =
-    let a = c .args in
-    omega (arith, mod-lt (a .a) {m = a .m} (let h : 0 < a .m = omega (arith, c .pre .0) in h))
-
-add-up : tie.Need-add-up
-add-up c = search needs
-
-add-result : tie.Need-add-result
-add-result c = search needs
+first-from-requires : tie.Need-first-from-requires
+first-from-requires c κs = (c .pre .0, c .pre .1, search needs)
 
 returns : tie.Need-returns
 returns c =
     let a = c .before .args in
-    reach-near (a .m) (a .z) (a .a) (a .b) (a .z + (a .m - a .a % a .m)) _ (c .before .pre .0) refl (search needs) refl
-
-add-result-2 : tie.Need-add-result-2
-add-result-2 c = search needs
-
-returns-2 : tie.Need-returns-2
-returns-2 c =
-    let a = c .before .args in
-    reach-round (a .m) (a .z) (a .a) (a .b) (a .z + (a .m - a .a % a .m)) _ (c .before .pre .0) refl (search needs) refl
+    reach-is (a .m) (a .z) (a .a) (a .b) (c .first-from .result) (c .first-from .ensures)
 
 pub reaches-spec : {M : Type 1} → statement M
-reaches-spec =
-    tie.close (tie.spec rem-up sub-up add-up add-result returns add-result-2 returns-2)
+reaches-spec = tie.close (tie.spec first-from-requires returns)
