@@ -1,6 +1,6 @@
 -- `leaps::sieve::allows_of`: only a relation that is asked and has a modulus is tried, as a whole or by the remainders that its ranges reach.
 use native.Mathlib.Omega.{arith}
-use Prim.Native.Nat.{ℕ, _*_}
+use Prim.Native.Nat.{ℕ}
 use mathlib.Core.Path.{refl, ap₂}
 use lib.ListN.{getD}
 use Rattle.rules.specs.Stretch.{rangesIn, table, relationAt}

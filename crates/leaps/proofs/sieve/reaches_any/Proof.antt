@@ -1,5 +1,4 @@
 -- `leaps::sieve::reaches_any` tries the ranges in turn. Invariant: the ranges left tell what all do.
-use native.Mathlib.Omega.{arith}
 use Prim.Native.Nat.{ℕ, _-_, min}
 use mathlib.Core.Path.{_≡_, refl, sym, ap, _∙_}
 use Rattle.clash_laws.proofs.Sieving.{Reach, reach-more, reach-found, reach-end}

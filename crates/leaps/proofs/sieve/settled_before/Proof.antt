@@ -1,5 +1,4 @@
 -- `leaps::sieve::settled_before`: m is past 10, and n past w.
-use mathlib.Core.Path.{sym}
 use Rattle.clash_laws.proofs.Sieving.{not-past, is-past}
 use borrow.Author.Needs.{needs}
 use Rattle.leaps.proofs.sieve.settled_before.Statement.{statement}
