@@ -11,7 +11,7 @@ mod settle;
 
 ghost use mathlib.Core.Path.{_≡_};
 ghost use Prim.Native.Nat.{min};
-ghost use Rattle.rules.specs.Held.{heldRules, lent};
+ghost use Rattle.rules.specs.Held.{heldRules};
 ghost use Rattle.clash_laws.specs.Check.{checkOf};
 use clash_laws::Checked;
 use clash_laws::Spot;
@@ -31,64 +31,12 @@ fn rule_count(count: usize) -> usize
     if count < 6 { count } else { 6 }
 }
 
-// Lent as slices the arrays have the lengths that they are declared with; there is nothing else to do.
-fn sized<'a>(
-    operand: &'a [u8],
-    modulus: &'a [u32],
-    negated: &'a [bool],
-    ranges: &'a [usize],
-    low: &'a [u32],
-    high: &'a [u32],
-    relations: &'a [usize],
-    keyword: &'a [u8],
-    clauses: &'a [usize],
-) {}
-
-// The check of the first `count` rules in a pack's arrays.
-pub fn check_held<'a>(
-    operand: &'a [u8; 320],
-    modulus: &'a [u32; 320],
-    negated: &'a [bool; 320],
-    ranges: &'a [usize; 320],
-    low: &'a [u32; 2048],
-    high: &'a [u32; 2048],
-    relations: &'a [usize; 40],
-    keyword: &'a [u8; 6],
-    clauses: &'a [usize; 6],
-    count: usize,
-) -> Checked
-    ensures { λ r. ⌜ r ≡ checkOf (heldRules (lent (now (low .entry)) (now (high .entry)) (now (operand .entry)) (now (modulus .entry)) (now (negated .entry)) (now (ranges .entry)) (now (relations .entry)) (now (keyword .entry)) (now (clauses .entry)) count)) ⌝ }
-{
-    sized(
-        operand,
-        modulus,
-        negated,
-        ranges,
-        low,
-        high,
-        relations,
-        keyword,
-        clauses,
-    );
-    let n = rule_count(count);
-    first::first_pair(
-        operand,
-        modulus,
-        negated,
-        ranges,
-        low,
-        high,
-        relations,
-        clauses,
-        n,
-    )
-}
-
-// The same for a parsed pack.
+// The check of a parsed pack.
 pub fn check(p: Pack) -> Checked
     ensures { λ r. ⌜ r ≡ checkOf (heldRules p) ⌝ }
 {
-    check_held(
+    let n = rule_count(p.count);
+    first::first_pair(
         &p.operand,
         &p.modulus,
         &p.negated,
@@ -96,8 +44,7 @@ pub fn check(p: Pack) -> Checked
         &p.low,
         &p.high,
         &p.relations,
-        &p.keyword,
         &p.clauses,
-        p.count,
+        n,
     )
 }

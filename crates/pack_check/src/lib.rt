@@ -20,25 +20,13 @@ fn checked_by(c: Checked) -> PackCheck
     }
 }
 
-// The pack's arrays are lent: handed on by value, the pack would be copied.
 pub fn check(pack: &[u8]) -> PackCheck
     ensures { λ r. ⌜ r ≡ checkPack (now (pack .entry)) ⌝ }
 {
     let p = pack::read_pack(pack);
     let verdict = pack::verdict_of(p.row, p.place);
     match verdict {
-        Verdict::Good => checked_by(clash::check_held(
-            &p.operand,
-            &p.modulus,
-            &p.negated,
-            &p.ranges,
-            &p.low,
-            &p.high,
-            &p.relations,
-            &p.keyword,
-            &p.clauses,
-            p.count,
-        )),
+        Verdict::Good => checked_by(clash::check(p)),
         Verdict::Refused(refusal) => PackCheck::Refused(refusal),
     }
 }

@@ -17,8 +17,8 @@ verdict-of-requires c κs = search needs
 enum-told : tie.Need-enum-told
 enum-told c = search needs
 
-check-held-requires : tie.Need-check-held-requires
-check-held-requires c κs = search needs
+check-requires : tie.Need-check-requires
+check-requires c κs = search needs
 
 checked-by-requires : tie.Need-checked-by-requires
 checked-by-requires c κs = search needs
@@ -28,11 +28,11 @@ enum-known-verdict c = search needs
 
 returns : tie.Need-returns
 returns c =
-    let a = c .before .before .before .before .before .before .before .before .before .before .before .before .before .before .before .before .before .args in
-    let p = c .before .before .before .before .before .before .before .before .before .before .before .before .before .before .before .read-pack in
-    let v = c .before .before .before .before .before .before .before .before .before .before .before .before .before .before .verdict-of in
-    c .checked-by .ensures ∙ ap checkedBy (c .before .check-held .ensures)
-    ∙ good (readPack (a .pack .now)) (v .result) (heldRules (p .result)) (v .ensures ∙ p .ensures .0) (c .before .before .before .before .before .before .before .before .before .before .before .before .enum-told .given .1) (p .ensures .1)
+    let a = c .before .before .before .before .before .before .before .args in
+    let p = c .before .before .before .before .before .read-pack in
+    let v = c .before .before .before .before .verdict-of in
+    c .checked-by .ensures ∙ ap checkedBy (c .before .check .ensures)
+    ∙ good (readPack (a .pack .now)) (v .result) (heldRules (p .result)) (v .ensures ∙ p .ensures .0) (c .before .before .enum-told .given .1) (p .ensures .1)
 
 returns-2 : tie.Need-returns-2
 returns-2 c =
@@ -48,7 +48,7 @@ check-spec =
     read-pack-requires
     verdict-of-requires
     enum-told
-    check-held-requires
+    check-requires
     checked-by-requires
     enum-known-verdict
     returns
