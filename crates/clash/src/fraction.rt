@@ -1,6 +1,6 @@
 // The least v and f of a clause, as one number: v * 10^9 + f.
 ghost use mathlib.Core.Path.{_≡_};
-ghost use mathlib.Core.Bool.{Bool};
+ghost use mathlib.Core.Bool.{Bool, true};
 ghost use mathlib.Core.List.{List};
 ghost use Prim.Native.Nat.{ℕ, suc, _-_, _^_, _≤_, _<_, min};
 ghost use Rattle.number.specs.Limits.{maxExponent, maxPlaces};
@@ -8,7 +8,7 @@ ghost use lib.Dec.{ltb};
 ghost use Rattle.decimal.specs.Choice.{both};
 ghost use Rattle.plural.specs.Meaning.{all};
 ghost use Rattle.least.specs.Seek.{seek};
-ghost use Rattle.clash_laws.specs.Fast.{settledF, exponentOf, wholeCode, tailOf, tailPlaces, tailCode, partCode, fractionCode};
+ghost use Rattle.clash_laws.specs.Fast.{fractions, settledF, exponentOf, wholeCode, tailOf, tailPlaces, tailCode, partCode, fractionCode};
 ghost use Rattle.rules.specs.Stretch.{table};
 ghost use Rattle.clash_laws.specs.Read.{joinedIn};
 use crate::limits;
@@ -224,6 +224,46 @@ fn tail_code<'a>(
     v * limits::FRACTION_LIMIT + t * power(k)
 }
 
+// Whether nothing was found where f ends in no zero, and no t meets what the clause asks of t alone:
+// then zeros behind it do not help.
+fn no_tail<'a>(
+    operand: &'a [u8; 320],
+    modulus: &'a [u32; 320],
+    negated: &'a [bool; 320],
+    ranges: &'a [usize; 320],
+    low: &'a [u32; 2048],
+    high: &'a [u32; 2048],
+    s: Span,
+    best: u64,
+) -> bool
+    requires { ⌜ (s .to ≤ 320) × (s .stop ≤ 320) ⌝ }
+    ensures { λ r. ⌜ (r ≡ true → (k : ℕ) → k < maxPlaces → tailCode k (joinedIn (table (now (operand .entry)) (now (modulus .entry)) (now (negated .entry)) (now (ranges .entry)) (now (low .entry)) (now (high .entry))) s) ≡ fractions) ⌝ }
+{
+    if best < limits::FRACTIONS {
+        return false;
+    }
+    let q = Query {
+        n: 0,
+        i: 0,
+        f: 0,
+        t: 1,
+        odd: true,
+    };
+    let t = leaps::least_number(
+        operand,
+        modulus,
+        negated,
+        ranges,
+        low,
+        high,
+        s,
+        q,
+        0,
+        limits::FRACTION_LIMIT,
+    );
+    limits::FRACTION_LIMIT <= t
+}
+
 // The least v and f, where f is not 0. More zeros need more places than one that is found may have.
 fn part_code<'a>(
     operand: &'a [u8; 320],
@@ -237,8 +277,12 @@ fn part_code<'a>(
     requires { ⌜ (s .to ≤ 320) × (s .stop ≤ 320) ⌝ }
     ensures { λ r. ⌜ r ≡ partCode maxPlaces (joinedIn (table (now (operand .entry)) (now (modulus .entry)) (now (negated .entry)) (now (ranges .entry)) (now (low .entry)) (now (high .entry))) s) ⌝ }
 {
-    let mut best = limits::FRACTIONS;
-    let mut k: u64 = 0;
+    let first = tail_code(operand, modulus, negated, ranges, low, high, s, 0);
+    let mut best = lesser(limits::FRACTIONS, first);
+    if no_tail(operand, modulus, negated, ranges, low, high, s, best) {
+        return limits::FRACTIONS;
+    }
+    let mut k: u64 = 1;
     while k < limits::MAX_PLACES {
         if best <= (k + 1) * limits::FRACTION_LIMIT {
             return best;

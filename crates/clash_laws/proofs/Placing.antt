@@ -1,15 +1,15 @@
 -- What the code of v and f works out: the least v in turn, and the least v and f as one number.
 use mathlib.Core.Path.{_≡_, refl, sym, ap, ap₂, subst, _∙_}
-use mathlib.Core.Bool.{Bool, true, false}
-use mathlib.Core.List.{List}
+use mathlib.Core.Bool.{Bool, true, false, not}
+use mathlib.Core.List.{List, [], _∷_}
 use mathlib.Core.Logic.{_⊎_, ⊎-elim}
-use Prim.Native.Nat.{ℕ, zero, suc, _+_, _-_, _*_, _^_, _≤_, _<_, min}
+use Prim.Native.Nat.{ℕ, zero, suc, _+_, _-_, _*_, _%_, _^_, _≤_, _<_, min}
 use native.Mathlib.Omega.{arith}
 use native.Mathlib.Nat.{pow-succ', mul-le-mul-right}
 use native.Mathlib.Numerals.{add-one}
 use lib.Pow.{pow-add}
-use lib.Dec.{ltb, leb}
-use borrow.Author.Tests.{le-leb, lt-leb}
+use lib.Dec.{ltb, leb, eqb}
+use borrow.Author.Tests.{le-leb, lt-leb, ltb-true}
 use Rattle.decimal.specs.Choice.{if_then_else_, both}
 use Rattle.decimal.proofs.Choices.{not-both}
 use Rattle.decimal.proofs.Values.{power-mono}
@@ -17,10 +17,8 @@ use Rattle.number.specs.Limits.{maxExponent, maxPlaces}
 use Rattle.rules.specs.Syntax.{Relation}
 use Rattle.plural.specs.Meaning.{all}
 use Rattle.least.specs.Seek.{Least, seek}
-use Rattle.least.proofs.Seeking.{split, least-one, seek-least}
-use Rattle.clash_laws.specs.Fast.{queryT, passes, search, settledE, settledF, exponentOf, fractions, wholeCode, tailOf, tailPlaces, tailCode, partCode, fractionCode}
-use Rattle.clash_laws.specs.Read.{cap}
-use Rattle.clash_laws.specs.Hop.{Room}
+use Rattle.least.proofs.Seeking.{split, and-true, least-one, seek-least}
+use Rattle.clash_laws.specs.Fast.{Query, factor, test, ends, passesAll, queryT, passes, search, settledE, settledF, exponentOf, fractions, wholeCode, tailOf, tailPlaces, tailCode, partCode, fractionCode}
 use Rattle.clash_laws.proofs.Leaping.{both-held, search-least}
 
 -- ---- powers
@@ -122,6 +120,59 @@ module _ (k : ℕ) (hk : k < maxPlaces) (c : List Relation) where
       go true h = omega arith
       go false h = omega arith
 
+-- ---- what is asked of t alone
+
+abbrev pub alone : Query
+alone = record { n = 0; i = 0; f = 0; t = 1; odd = true }
+
+one-alone : (k x : ℕ) (r : Relation) → passes (queryT k) r x ≡ true → passes alone r x ≡ true
+unfolding passes factor
+one-alone k x r = go (eqb (r .operand) 110) (eqb (r .operand) 105) (eqb (r .operand) 102) (eqb (r .operand) 116)
+  where
+    by : ℕ → (a b c d : Bool) → ℕ
+    by f a b c d = if a then 0 else if b then 0 else if c then f else if d then 1 else 0
+
+    go : (a b c d : Bool) → (if not (eqb (by (10 ^ k) a b c d) 0) then test r (x * by (10 ^ k) a b c d) else true) ≡ true
+        → (if not (eqb (by 0 a b c d) 0) then test r (x * by 0 a b c d) else true) ≡ true
+    go true b c d h = refl
+    go false true c d h = refl
+    go false false true d h = refl
+    go false false false true h = h
+    go false false false false h = refl
+
+each-alone : (k x : ℕ) (c : List Relation) → all (λ (r : Relation). passes (queryT k) r x) c ≡ true → all (λ (r : Relation). passes alone r x) c ≡ true
+each-alone k x [] h = refl
+each-alone k x (r ∷ rs) h =
+    let b = both-held (passes (queryT k) r x) (all (λ (r : Relation). passes (queryT k) r x) rs) h in
+    and-true (one-alone k x r (b .0)) (each-alone k x rs (b .1))
+
+all-alone : (k x : ℕ) (c : List Relation) → passesAll (queryT k) c x ≡ true → passesAll alone c x ≡ true
+unfolding passesAll ends
+all-alone k x c h =
+    let b = both-held (not (eqb (x % 10) 0)) (all (λ (r : Relation). passes (queryT k) r x) c) h in
+    and-true (b .0) (each-alone k x c (b .1))
+
+module _ (c : List Relation) (t : ℕ) (e : t ≡ search alone c 0 (10 ^ maxPlaces)) (h : 10 ^ maxPlaces ≤ t) (k : ℕ) (hk : k < maxPlaces) where
+  tail-far : 10 ^ (maxPlaces - k) ≤ tailOf k c
+  unfolding tailOf
+  tail-far =
+      let l = search-least alone c 0 (10 ^ maxPlaces) (omega arith) in
+      let g = search-least (queryT k) c 0 (10 ^ (maxPlaces - k)) (omega arith) in
+      let b : 10 ^ (maxPlaces - k) ≤ 10 ^ maxPlaces = power-mono {j = maxPlaces} (omega arith) in
+      ⊎-elim
+      (λ z. not-both (all-alone k (search (queryT k) c 0 (10 ^ (maxPlaces - k))) c (g .hit z)) (l .none (search (queryT k) c 0 (10 ^ (maxPlaces - k))) (omega arith) (omega arith)))
+      (λ z. z) (split (search (queryT k) c 0 (10 ^ (maxPlaces - k))) (10 ^ (maxPlaces - k)))
+
+  pub no-tail : tailCode k c ≡ fractions
+  no-tail =
+      sym (tail-none k hk c (tailOf k c) (tailPlaces k (tailOf k c) c) refl refl
+      (⊎-elim (λ z. z)
+      (λ z.
+      let d = both-held (all (settledF (tailPlaces k (tailOf k c) c) (tailPlaces k (tailOf k c) c - k)) c) (ltb (tailOf k c) (10 ^ (tailPlaces k (tailOf k c) c - k))) (sought k hk c (tailOf k c) .hit (omega arith)) in
+      let b : 10 ^ (tailPlaces k (tailOf k c) c - k) ≤ 10 ^ (maxPlaces - k) = power-mono {j = maxPlaces - k} (omega arith) in
+      absurd (omega (arith, ltb-true (tailOf k c) (10 ^ (tailPlaces k (tailOf k c) c - k)) (d .1), tail-far)))
+      (split maxPlaces (tailPlaces k (tailOf k c) c))))
+
 -- ---- a search for t
 
 pub tail-is : (k p e r : ℕ) (c : List Relation) → p ≡ 10 ^ k → e ≡ 10 ^ (maxPlaces - k) → r ≡ search (record { n = 0; i = 0; f = p; t = 1; odd = true }) c 0 e → r ≡ tailOf k c
@@ -134,6 +185,14 @@ module _ (c : List Relation) where
   pub part-start : fractions ≡ partCode 0 c
   unfolding partCode
   part-start = refl
+
+  pub part-none : ((k : ℕ) → k < maxPlaces → tailCode k c ≡ fractions) → fractions ≡ partCode maxPlaces c
+  unfolding partCode
+  part-none f = sym (go maxPlaces (omega arith))
+    where
+      go : (n : ℕ) → n ≤ maxPlaces → partCode n c ≡ fractions
+      go zero h = refl
+      go (suc n) h = let a = go n (omega arith) in let b = f n (omega arith) in omega arith
 
   pub part-more : (best y z k : ℕ) → best ≡ partCode k c → y ≡ tailCode k c → z ≡ min best y → z ≡ partCode (k + 1) c
   unfolding partCode

@@ -15,6 +15,7 @@ use Rattle.clash_laws.specs.Fast.{test, search}
 use Rattle.clash_laws.specs.Read.{cap, joinedIn}
 use Rattle.clash_laws.specs.Hop.{Room}
 use Rattle.clash_laws.specs.Ready.{ready, leastIn, holdsIn}
+use Rattle.clash_laws.proofs.Placing.{alone}
 use Rattle.clash_laws.specs.declared.Query.{Query}
 use Rattle.clash_laws.specs.declared.Span.{Span}
 
@@ -94,3 +95,8 @@ integer-ready T s w n lo a b g l =
     once : (w : Bool) → n ≡ (if w then 1 else 0) → n ≤ 1
     once true e = omega arith
     once false e = omega arith
+
+-- a search for t by what is asked of t alone
+pub alone-ready : (T : Table) (s : Span) → s .to ≤ 320 → s .stop ≤ 320 → leastIn T s alone 0 (10 ^ maxPlaces) ≡ search alone (joinedIn T s) 0 (10 ^ maxPlaces)
+alone-ready T s a b =
+    least-ready T s alone 0 (10 ^ maxPlaces) (omega arith) a b (omega arith) (omega arith) (omega arith) (λ z. omega arith) (λ z. absurd (z refl))

@@ -44,7 +44,7 @@ returns c =
     let P = passesAll (a .q) (joinedIn T (a .s)) in
     let g = c .before .leap-on in
     let f = none-on P (a .lo) (l .loop .x) (g .result) (l .loop .inv .1) (g .ensures .1) in
-    search-ended (a .q) (joinedIn T (a .s)) (a .lo) (a .hi) (e .result) (g .result) (s .pre .0) (e .ensures) (omega (arith, l .loop .inv .0, g .ensures .0)) f (search needs)
+    search-ended (a .q) (joinedIn T (a .s)) (a .lo) (a .hi) (e .result) (g .result) (s .pre .0) (e .ensures) (omega (arith, l .loop .inv .0, g .ensures .0)) f (c .if1 .taken)
 
 leap-all-requires : tie.Need-leap-all-requires Inv-loop μ-loop
 leap-all-requires c κs =
@@ -67,7 +67,7 @@ returns-2 c =
     let P = passesAll (a .q) (joinedIn T (a .s)) in
     let g = c .before .before .before .leap-on in
     let f = none-on P (a .lo) (l .loop .x) (g .result) (l .loop .inv .1) (g .ensures .1) in
-    search-found (a .q) (joinedIn T (a .s)) (a .lo) (a .hi) (e .result) (g .result) (s .pre .0) (e .ensures) (omega (arith, l .loop .inv .0, g .ensures .0)) f (c .before .leap-all .result) (search needs) (c .before .leap-all .ensures) (search needs)
+    search-found (a .q) (joinedIn T (a .s)) (a .lo) (a .hi) (e .result) (g .result) (s .pre .0) (e .ensures) (omega (arith, l .loop .inv .0, g .ensures .0)) f (c .before .leap-all .result) (omega (arith, c .before .before .if1 .left)) (c .before .leap-all .ensures) (c .if2 .taken)
 
 returns-3 : tie.Need-returns-3 Inv-loop μ-loop
 returns-3 c =
@@ -80,7 +80,7 @@ returns-3 c =
     let g = c .before .before .before .before .leap-on in
     let f = none-on P (a .lo) (l .loop .x) (g .result) (l .loop .inv .1) (g .ensures .1) in
     let h = c .before .before .leap-all in
-    search-ended (a .q) (joinedIn T (a .s)) (a .lo) (a .hi) (e .result) (h .result) (s .pre .0) (e .ensures) (omega (arith, l .loop .inv .0, g .ensures .0, h .ensures .low)) (none-on P (a .lo) (g .result) (h .result) f (h .ensures .none)) (search needs)
+    search-ended (a .q) (joinedIn T (a .s)) (a .lo) (a .hi) (e .result) (h .result) (s .pre .0) (e .ensures) (omega (arith, l .loop .inv .0, g .ensures .0, h .ensures .low)) (none-on P (a .lo) (g .result) (h .result) f (h .ensures .none)) (c .if3 .taken)
 
 lesser-requires : tie.Need-lesser-requires Inv-loop μ-loop
 lesser-requires c κs = search needs
@@ -126,7 +126,7 @@ returns-4 c =
     let a = s .args in
     let T = table (a .operand .now) (a .modulus .now) (a .negated .now) (a .ranges .now) (a .low .now) (a .high .now) in
     let P = passesAll (a .q) (joinedIn T (a .s)) in
-    search-ended (a .q) (joinedIn T (a .s)) (a .lo) (a .hi) (e .result) (l .loop .x) (s .pre .0) (e .ensures) (l .loop .inv .0) (l .loop .inv .1) (search needs)
+    search-ended (a .q) (joinedIn T (a .s)) (a .lo) (a .hi) (e .result) (l .loop .x) (s .pre .0) (e .ensures) (l .loop .inv .0) (l .loop .inv .1) (omega (arith, c .loop-test .left))
 
 pub least-number-spec : {M : Type 1} → statement M
 least-number-spec =

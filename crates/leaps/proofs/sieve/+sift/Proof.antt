@@ -43,7 +43,7 @@ sift-returns t c =
     let p = s .pre .1 in
     let T = table (a .operand .now) (a .modulus .now) (a .negated .now) (a .ranges .now) (a .low .now) (a .high .now) in
     let P = passesAll (a .q) (joinedIn T (a .s)) in
-    (λ _. out-end P (a .from) (a .m) (a .d) (a .best) (p .1) (search needs), omega arith, omega arith)
+    (λ _. out-end P (a .from) (a .m) (a .d) (a .best) (p .1) (c .if1 .taken), omega arith, omega arith)
 
 sift-returns-2 : (t : ℕ) → sift-lts.Need-returns-2 (first-from-reads.Asked, first-from-reads.Learnt, worth-reads.Asked, worth-reads.Learnt, sift-below t, sift.Post, is-last-reads.Asked, is-last-reads.Learnt, lesser-reads.Asked, lesser-reads.Learnt) (sift-at t) sift.Post
 sift-returns-2 t c = (λ h. absurd (omega arith), omega arith, omega arith)
@@ -53,14 +53,14 @@ sift-first-from-requires t c κs =
     let s = c .before .before in
     let a = s .args in
     let p = s .pre .1 in
-    (search needs, omega (arith, p .2, p .0 .self), p .3)
+    (omega (arith, c .before .if1 .left), omega (arith, p .2, p .0 .self), p .3)
 
 sift-worth-requires : (t : ℕ) → sift-lts.Need-worth-requires (first-from-reads.Asked, first-from-reads.Learnt, worth-reads.Asked, worth-reads.Learnt, sift-below t, sift.Post, is-last-reads.Asked, is-last-reads.Learnt, lesser-reads.Asked, lesser-reads.Learnt) (sift-at t) sift.Post
 sift-worth-requires t c κs =
     let s = c .before .before .before in
     let a = s .args in
     let p = s .pre .1 in
-    (room-le (a .q) (10 * a .m) (a .hi) (p .0) (p .2), search needs, p .4, p .5)
+    (room-le (a .q) (10 * a .m) (a .hi) (p .0) (p .2), omega (arith, c .before .before .if1 .left), p .4, p .5)
 
 sift-add-sift : (t : ℕ) → sift-lts.Need-add-sift (first-from-reads.Asked, first-from-reads.Learnt, worth-reads.Asked, worth-reads.Learnt, sift-below t, sift.Post, is-last-reads.Asked, is-last-reads.Learnt, lesser-reads.Asked, lesser-reads.Learnt) (sift-at t) sift.Post
 sift-add-sift t c =
@@ -70,7 +70,7 @@ sift-add-sift t c =
     omega (arith, p .2, p .0 .self, c .before .before .before .before .if1 .left)
 
 sift-sub-sift : (t : ℕ) → sift-lts.Need-sub-sift (first-from-reads.Asked, first-from-reads.Learnt, worth-reads.Asked, worth-reads.Learnt, sift-below t, sift.Post, is-last-reads.Asked, is-last-reads.Learnt, lesser-reads.Asked, lesser-reads.Learnt) (sift-at t) sift.Post
-sift-sub-sift t c = search needs
+sift-sub-sift t c = omega (arith, c .before .before .before .if2 .left)
 
 sift-sift-requires : (t : ℕ) → sift-lts.Need-sift-requires (first-from-reads.Asked, first-from-reads.Learnt, worth-reads.Asked, worth-reads.Learnt, sift-below t, sift.Post, is-last-reads.Asked, is-last-reads.Learnt, lesser-reads.Asked, lesser-reads.Learnt) (sift-at t) sift.Post
 sift-sift-requires t c κs =
@@ -114,7 +114,7 @@ sift-lesser-requires : (t : ℕ) → sift-lts.Need-lesser-requires (first-from-r
 sift-lesser-requires t c κs = search needs
 
 sift-sub-sift-2 : (t : ℕ) → sift-lts.Need-sub-sift-2 (first-from-reads.Asked, first-from-reads.Learnt, worth-reads.Asked, worth-reads.Learnt, sift-below t, sift.Post, is-last-reads.Asked, is-last-reads.Learnt, lesser-reads.Asked, lesser-reads.Learnt) (sift-at t) sift.Post
-sift-sub-sift-2 t c = search needs
+sift-sub-sift-2 t c = omega (arith, c .before .before .before .before .before .before .if2 .left)
 
 sift-sift-requires-2 : (t : ℕ) → sift-lts.Need-sift-requires-2 (first-from-reads.Asked, first-from-reads.Learnt, worth-reads.Asked, worth-reads.Learnt, sift-below t, sift.Post, is-last-reads.Asked, is-last-reads.Learnt, lesser-reads.Asked, lesser-reads.Learnt) (sift-at t) sift.Post
 sift-sift-requires-2 t c κs =
@@ -141,7 +141,7 @@ sift-returns-4 t c =
     )
 
 sift-sub-sift-3 : (t : ℕ) → sift-lts.Need-sub-sift-3 (first-from-reads.Asked, first-from-reads.Learnt, worth-reads.Asked, worth-reads.Learnt, sift-below t, sift.Post, is-last-reads.Asked, is-last-reads.Learnt, lesser-reads.Asked, lesser-reads.Learnt) (sift-at t) sift.Post
-sift-sub-sift-3 t c = search needs
+sift-sub-sift-3 t c = omega (arith, c .before .before .before .before .before .if2 .left)
 
 sift-sift-requires-3 : (t : ℕ) → sift-lts.Need-sift-requires-3 (first-from-reads.Asked, first-from-reads.Learnt, worth-reads.Asked, worth-reads.Learnt, sift-below t, sift.Post, is-last-reads.Asked, is-last-reads.Learnt, lesser-reads.Asked, lesser-reads.Learnt) (sift-at t) sift.Post
 sift-sift-requires-3 t c κs =
