@@ -44,3 +44,10 @@ stored o values count n e = rw (e, take-min count values, length-take count valu
 pub noted-front : (figures before : List ℕ) → length before ≡ 8 → length figures ≤ 7
     → noted figures before ≡ (length figures ∷ figures) ++ drop (length (length figures ∷ figures)) before
 noted-front figures before h l = sets-eq (length figures ∷ figures) before 0 (omega arith) ∙ rw zero-add
+
+-- An entry whose job answers x: the code and the figures of the case that the answer is are those of x.
+pub told : {A : Type 0} (code : A → ℕ) (figures : A → List ℕ) (x r q : A) (c : ℕ) (fs before : List ℕ) → r ≡ x → r ≡ q → c ≡ code q → fs ≡ noted (figures q) before
+    → (c ≡ code x) × (fs ≡ noted (figures x) before)
+told code figures x r q c fs before e g k h =
+    let w = sym g ∙ e in
+    (k ∙ ap code w, h ∙ ap (λ y. noted (figures y) before) w)

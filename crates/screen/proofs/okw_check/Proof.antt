@@ -1,5 +1,6 @@
 -- `screen::okw_check` answers by the case of the check.
-use mathlib.Core.Path.{sym, ap, _∙_}
+use Rattle.pack_check.specs.Check.{checkPack}
+use Rattle.screen.proofs.Noted.{told}
 use Rattle.screen.specs.Entries.{noted, checkCode, checkFigures}
 use borrow.Author.Needs.{needs}
 use Rattle.screen.proofs.okw_check.Statement.{statement}
@@ -23,14 +24,14 @@ note-refusal-requires c κs = search needs
 returns : tie.Need-returns
 returns c =
     let a = c .before .before .before .before .before .before .args in
-    let e = sym (c .before .before .before .before .check .ensures) ∙ c .before .before .enum-told .given .1 in
-    (c .note-none .ensures .0 ∙ ap checkCode (sym e), c .note-none .ensures .1 ∙ ap (λ x. noted (checkFigures x) (a .figures .now)) (sym e))
+    let r = c .before .before .before .before .check in
+    told checkCode checkFigures (checkPack (a .pack .now)) (r .result) _ (c .note-none .result) (c .note-none .last .0) (a .figures .now) (r .ensures) (c .before .before .enum-told .given .1) (c .note-none .ensures .0) (c .note-none .ensures .1)
 
 returns-2 : tie.Need-returns-2
 returns-2 c =
     let a = c .before .before .before .before .before .before .before .args in
-    let e = sym (c .before .before .before .before .before .check .ensures) ∙ c .before .before .before .checked .given .1 in
-    (c .note-refusal .ensures .0 ∙ ap checkCode (sym e), c .note-refusal .ensures .1 ∙ ap (λ x. noted (checkFigures x) (a .figures .now)) (sym e))
+    let r = c .before .before .before .before .before .check in
+    told checkCode checkFigures (checkPack (a .pack .now)) (r .result) _ (c .note-refusal .result) (c .note-refusal .last .0) (a .figures .now) (r .ensures) (c .before .before .before .checked .given .1) (c .note-refusal .ensures .0) (c .note-refusal .ensures .1)
 
 pub okw-check-spec : {M : Type 1} → statement M
 okw-check-spec =

@@ -1,5 +1,6 @@
 -- `screen::okw_print` answers by the case of what was printed.
-use mathlib.Core.Path.{sym, ap, _∙_}
+use Rattle.print.specs.Outcome.{outcome, answerOf}
+use Rattle.screen.proofs.Noted.{told}
 use Rattle.screen.specs.Entries.{noted, printCode, printFigures}
 use borrow.Author.Needs.{needs}
 use Rattle.screen.proofs.okw_print.Statement.{statement}
@@ -26,11 +27,11 @@ same-length c = search needs
 returns : tie.Need-returns
 returns c =
     let a = c .before .before .before .before .before .before .before .before .before .before .before .before .before .args in
-    let p = c .before .before .before .before .before .before .before .print in
-    let e = sym (p .ensures .0) ∙ c .before .before .before .printed .given .1 in (
-      c .note-one .ensures .0 ∙ ap printCode (sym e),
-      (p .ensures .1, c .note-one .ensures .1 ∙ ap (λ x. noted (printFigures x) (a .figures .now)) (sym e)),
-    )
+    let r = c .before .before .before .before .before .before .before .print in
+    let t =
+    told printCode printFigures (answerOf (outcome (a .symbols .now) (a .pattern .now) (a .number .now)) (a .out .now)) (r .result) _ (c .note-one .result) (c .note-one .last .0) (a .figures .now) (r .ensures .0) (c .before .before .before .printed .given .1)
+    (c .note-one .ensures .0) (c .note-one .ensures .1) in
+    (t .0, (r .ensures .1, t .1))
 
 same-length-2 : tie.Need-same-length-2
 same-length-2 c = search needs
@@ -38,11 +39,11 @@ same-length-2 c = search needs
 returns-2 : tie.Need-returns-2
 returns-2 c =
     let a = c .before .before .before .before .before .before .before .before .before .before .before .before .before .args in
-    let p = c .before .before .before .before .before .before .before .print in
-    let e = sym (p .ensures .0) ∙ c .before .before .before .printed2 .given .1 in (
-      c .note-refusal .ensures .0 ∙ ap printCode (sym e),
-      (p .ensures .1, c .note-refusal .ensures .1 ∙ ap (λ x. noted (printFigures x) (a .figures .now)) (sym e)),
-    )
+    let r = c .before .before .before .before .before .before .before .print in
+    let t =
+    told printCode printFigures (answerOf (outcome (a .symbols .now) (a .pattern .now) (a .number .now)) (a .out .now)) (r .result) _ (c .note-refusal .result) (c .note-refusal .last .0) (a .figures .now) (r .ensures .0) (c .before .before .before .printed2 .given .1)
+    (c .note-refusal .ensures .0) (c .note-refusal .ensures .1) in
+    (t .0, (r .ensures .1, t .1))
 
 pub okw-print-spec : {M : Type 1} → statement M
 okw-print-spec =

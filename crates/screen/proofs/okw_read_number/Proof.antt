@@ -1,5 +1,6 @@
 -- `screen::okw_read_number` answers by the case of the reading.
-use mathlib.Core.Path.{sym, ap, _∙_}
+use Rattle.number.specs.Reading.{readNumber}
+use Rattle.screen.proofs.Noted.{told}
 use Rattle.screen.specs.Entries.{noted, readCode, readFigures}
 use borrow.Author.Needs.{needs}
 use Rattle.screen.proofs.okw_read_number.Statement.{statement}
@@ -23,14 +24,14 @@ note-refusal-requires c κs = search needs
 returns : tie.Need-returns
 returns c =
     let a = c .before .before .before .before .before .before .before .args in
-    let e = sym (c .before .before .before .before .before .read-number .ensures) ∙ c .before .before .before .reading .given .1 in
-    (c .note-number .ensures .0 ∙ ap readCode (sym e), c .note-number .ensures .1 ∙ ap (λ x. noted (readFigures x) (a .figures .now)) (sym e))
+    let r = c .before .before .before .before .before .read-number in
+    told readCode readFigures (readNumber (a .number .now)) (r .result) _ (c .note-number .result) (c .note-number .last .0) (a .figures .now) (r .ensures) (c .before .before .before .reading .given .1) (c .note-number .ensures .0) (c .note-number .ensures .1)
 
 returns-2 : tie.Need-returns-2
 returns-2 c =
     let a = c .before .before .before .before .before .before .before .args in
-    let e = sym (c .before .before .before .before .before .read-number .ensures) ∙ c .before .before .before .reading2 .given .1 in
-    (c .note-refusal .ensures .0 ∙ ap readCode (sym e), c .note-refusal .ensures .1 ∙ ap (λ x. noted (readFigures x) (a .figures .now)) (sym e))
+    let r = c .before .before .before .before .before .read-number in
+    told readCode readFigures (readNumber (a .number .now)) (r .result) _ (c .note-refusal .result) (c .note-refusal .last .0) (a .figures .now) (r .ensures) (c .before .before .before .reading2 .given .1) (c .note-refusal .ensures .0) (c .note-refusal .ensures .1)
 
 pub okw-read-number-spec : {M : Type 1} → statement M
 okw-read-number-spec =

@@ -1,5 +1,7 @@
 -- `screen::okw_select` answers by the case of the selection.
-use mathlib.Core.Path.{sym, ap, _∙_}
+use mathlib.Core.Path.{ap, _∙_}
+use Rattle.select.specs.Select.{selectOf}
+use Rattle.screen.proofs.Noted.{told}
 use mathlib.Core.List.{[], _∷_}
 use Rattle.screen.specs.Entries.{noted, selectCode, selectFigures}
 use borrow.Author.Needs.{needs}
@@ -27,16 +29,15 @@ note-refusal-requires c κs = search needs
 returns : tie.Need-returns
 returns c =
     let a = c .before .before .before .before .before .before .before .before .before .args in
-    let e = sym (c .before .before .before .before .before .before .select .ensures) ∙ c .before .before .before .before .selection .given .1 in (
-      c .note-one .ensures .0 ∙ ap selectCode (sym e),
-      c .note-one .ensures .1 ∙ ap (λ n. noted (n ∷ []) (a .figures .now)) (c .before .word-number .ensures) ∙ ap (λ x. noted (selectFigures x) (a .figures .now)) (sym e),
-    )
+    let r = c .before .before .before .before .before .before .select in
+    told selectCode selectFigures (selectOf (a .pack .now) (a .number .now)) (r .result) _ (c .note-one .result) (c .note-one .last .0) (a .figures .now) (r .ensures) (c .before .before .before .before .selection .given .1)
+    (c .note-one .ensures .0) (c .note-one .ensures .1 ∙ ap (λ n. noted (n ∷ []) (a .figures .now)) (c .before .word-number .ensures))
 
 returns-2 : tie.Need-returns-2
 returns-2 c =
     let a = c .before .before .before .before .before .before .before .before .args in
-    let e = sym (c .before .before .before .before .before .select .ensures) ∙ c .before .before .before .selection2 .given .1 in
-    (c .note-refusal .ensures .0 ∙ ap selectCode (sym e), c .note-refusal .ensures .1 ∙ ap (λ x. noted (selectFigures x) (a .figures .now)) (sym e))
+    let r = c .before .before .before .before .before .select in
+    told selectCode selectFigures (selectOf (a .pack .now) (a .number .now)) (r .result) _ (c .note-refusal .result) (c .note-refusal .last .0) (a .figures .now) (r .ensures) (c .before .before .before .selection2 .given .1) (c .note-refusal .ensures .0) (c .note-refusal .ensures .1)
 
 pub okw-select-spec : {M : Type 1} → statement M
 okw-select-spec =
