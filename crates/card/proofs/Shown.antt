@@ -1,5 +1,5 @@
--- Every row of the card is right, by computation from the definitions. A clash is computed from the pack's rules by the search by leaps, which equals
--- the definition (clash/proofs/Rows.antt).
+-- Every row of the card is right, by computation from the definitions. What the check says is computed from the pack's rules by the search by leaps, which
+-- equals the definition (clash_laws/proofs/Rows.antt).
 use mathlib.Core.Path.{_≡_, refl}
 use mathlib.Core.List.{List, [], _∷_}
 use Prim.Native.Nat.{ℕ}
@@ -9,13 +9,20 @@ use Rattle.grammar.specs.Reader.{readPack}
 use Rattle.grammar.specs.Reader.PackAnswer.{Rules}
 use Rattle.clash_laws.specs.Check.{checkOf}
 use Rattle.clash_laws.specs.declared.Checked.{Checked}
-use Rattle.clash_laws.proofs.Rows.{clash, packTens, row-tens, packTrailing, row-trailing, packSeven, row-seven}
+use Rattle.clash_laws.specs.declared.Checked.the-variants.{Passes}
+use Rattle.clash_laws.proofs.Rows.{clash, packTens, row-tens, packTrailing, row-trailing, packSeven, row-seven, packFew, row-few}
 use Rattle.pack_check.specs.Check.{checkedBy, checkPack}
-use Rattle.card.specs.Card.{All, rows, tensPack, trailingPack, sevenPack}
+use Rattle.card.specs.Card.{All, rows, fewPack, tensPack, trailingPack, sevenPack}
 
 -- what the check says of a pack's text, from what it says of the rules that are read of it
 by-rules : (pack : List ℕ) (rules : List Rule) (c : Checked) → readPack pack ≡ Rules rules → checkOf rules ≡ c → checkPack pack ≡ checkedBy c
 by-rules pack rules c e f = rw (e, f)
+
+few-read : readPack fewPack ≡ Rules packFew
+few-read = refl
+
+few : checkPack fewPack ≡ checkedBy Passes
+few = by-rules fewPack packFew Passes few-read row-few
 
 tens-read : readPack tensPack ≡ Rules packTens
 tens-read = refl
@@ -37,4 +44,5 @@ seven = by-rules sevenPack packSeven (clash 1 2 0 0 1000007 0) seven-read row-se
 
 pub card : All rows
 unfolding kindOf
-card = (refl, (refl, (refl, (refl, (tens, (trailing, (seven, (refl, (refl, (refl, (refl, (refl, tt))))))))))))
+card =
+    (refl, (refl, (refl, (refl, (few, (tens, (trailing, (seven, (refl, (refl, (refl, (refl, (refl, (refl, tt))))))))))))))

@@ -12,7 +12,7 @@ use Rattle.plural.specs.declared.Selection.{Selection}
 use Rattle.plural.specs.declared.Selection.the-variants.{Word}
 use Rattle.answer.specs.declared.Refusal.the-variants.{RulesClash}
 use Rattle.pack_check.specs.Check.{checkPack}
-use Rattle.pack_check.specs.declared.PackCheck.the-variants.{Refused}
+use Rattle.pack_check.specs.declared.PackCheck.the-variants.{Passes, Refused}
 use Rattle.select.specs.Select.{selectOf}
 use Rattle.print.specs.Outcome.{outcome}
 use Rattle.print.specs.Outcome.Outcome.{text}
@@ -21,6 +21,7 @@ use Rattle.print.specs.Outcome.Outcome.{text}
 pub data Row : Type 0 where
   operands : (number : List ℕ) → Reading → Row
   word : (pack number : List ℕ) → Selection → Row
+  passed : (pack : List ℕ) → Row
   clash : (pack : List ℕ) (first second e v i f : ℕ) → Row
   prints : (pattern number shown : List ℕ) → Row
 
@@ -28,6 +29,7 @@ pub data Row : Type 0 where
 abbrev pub Right : Row → Type 0
 Right (operands number r) = readNumber number ≡ r
 Right (word pack number s) = selectOf pack number ≡ s
+Right (passed pack) = checkPack pack ≡ Passes
 Right (clash pack first second e v i f) = checkPack pack ≡ Refused (RulesClash (record { first = first; second = second }) (record { e = e; v = record { 0 = v }; i = i; f = record { 0 = f } }))
 Right (prints pattern number shown) = outcome [] pattern number ≡ text shown
 
@@ -47,6 +49,11 @@ positive i v w f t e =
       w = record { 0 = w };
       t = record { 0 = t };
     })
+
+-- "one: n = 1; few: n = 2..4"
+abbrev pub fewPack : List ℕ
+fewPack =
+    111 ∷ 110 ∷ 101 ∷ 58 ∷ 32 ∷ 110 ∷ 32 ∷ 61 ∷ 32 ∷ 49 ∷ 59 ∷ 32 ∷ 102 ∷ 101 ∷ 119 ∷ 58 ∷ 32 ∷ 110 ∷ 32 ∷ 61 ∷ 32 ∷ 50 ∷ 46 ∷ 46 ∷ 52 ∷ []
 
 -- "one: n = 1; few: n % 10 = 1..3"
 abbrev pub tensPack : List ℕ
@@ -71,8 +78,9 @@ rows =
     ∷ operands (49 ∷ 46 ∷ 48 ∷ []) (positive 1 1 0 0 0 0)
     -- "`one: i = 1 and v = 0`: [..] 1.0 other"
     ∷ word (111 ∷ 110 ∷ 101 ∷ 58 ∷ 32 ∷ 105 ∷ 32 ∷ 61 ∷ 32 ∷ 49 ∷ 32 ∷ 97 ∷ 110 ∷ 100 ∷ 32 ∷ 118 ∷ 32 ∷ 61 ∷ 32 ∷ 48 ∷ []) (49 ∷ 46 ∷ 48 ∷ []) (Word Other)
-    -- "`one: n = 1; few: n = 2..4`: 3.0 few"
-    ∷ word (111 ∷ 110 ∷ 101 ∷ 58 ∷ 32 ∷ 110 ∷ 32 ∷ 61 ∷ 32 ∷ 49 ∷ 59 ∷ 32 ∷ 102 ∷ 101 ∷ 119 ∷ 58 ∷ 32 ∷ 110 ∷ 32 ∷ 61 ∷ 32 ∷ 50 ∷ 46 ∷ 46 ∷ 52 ∷ []) (51 ∷ 46 ∷ 48 ∷ []) (Word Few)
+    -- "`one: n = 1; few: n = 2..4`: 3.0 few, passes"
+    ∷ word fewPack (51 ∷ 46 ∷ 48 ∷ []) (Word Few)
+    ∷ passed fewPack
     -- "`one: n = 1; few: n % 10 = 1..3`: 27, pair 1 2, 0 0 1 0"
     ∷ clash tensPack 1 2 0 0 1 0
     -- "`one: t = 5; two: f = 50`: 0 2 0 50"
@@ -83,8 +91,9 @@ rows =
     ∷ prints (48 ∷ 46 ∷ 48 ∷ []) (48 ∷ 46 ∷ 51 ∷ 52 ∷ 57 ∷ []) (48 ∷ 46 ∷ 51 ∷ [])
     ∷ prints (48 ∷ 46 ∷ 48 ∷ []) (48 ∷ 46 ∷ 51 ∷ 53 ∷ []) (48 ∷ 46 ∷ 52 ∷ [])
     ∷ prints (48 ∷ 46 ∷ 48 ∷ []) (48 ∷ 46 ∷ 50 ∷ 53 ∷ []) (48 ∷ 46 ∷ 50 ∷ [])
-    -- "`0.65`: * 1.234 [..] 1.30"
+    -- "`0.65`: * 1.234 and 1.625 give 1.30"
     ∷ prints (48 ∷ 46 ∷ 54 ∷ 53 ∷ []) (49 ∷ 46 ∷ 50 ∷ 51 ∷ 52 ∷ []) (49 ∷ 46 ∷ 51 ∷ 48 ∷ [])
+    ∷ prints (48 ∷ 46 ∷ 54 ∷ 53 ∷ []) (49 ∷ 46 ∷ 54 ∷ 50 ∷ 53 ∷ []) (49 ∷ 46 ∷ 51 ∷ 48 ∷ [])
     -- "* `#,##,##0`: 1234567 gives 12,34,567"
     ∷ prints (35 ∷ 44 ∷ 35 ∷ 35 ∷ 44 ∷ 35 ∷ 35 ∷ 48 ∷ []) (49 ∷ 50 ∷ 51 ∷ 52 ∷ 53 ∷ 54 ∷ 55 ∷ []) (49 ∷ 50 ∷ 44 ∷ 51 ∷ 52 ∷ 44 ∷ 53 ∷ 54 ∷ 55 ∷ [])
     ∷ []

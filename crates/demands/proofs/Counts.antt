@@ -61,6 +61,18 @@ module _ (x : Number) where
       let o : met rules x ≡ 1 = omega arith in
       rw (e, eq-eqb (met rules x) 1 o) (ap Word (word-first rules (omega arith))))
 
+  -- a rule that is met gives the word, where at most one is
+  pub word-of : {rs : List Rule} {k : ℕ} {w : Keyword} → MeetsAt x rs k w → met rs x ≤ 1 → wordMet rs x ≡ w
+  word-of (here e) h = rw e
+  word-of (there {r = r} {rs = rs} m) h =
+      tested (meets r x)
+      (λ e.
+      let h′ : 1 + met rs x ≤ 1 = rw e at h in
+      absurd (omega (arith, counted x m)))
+      (λ e.
+      let h′ : 0 + met rs x ≤ 1 = rw e at h in
+      rw e (word-of m (omega arith)))
+
   -- ---- any order
 
   pub met-perm : {rs qs : List Rule} → List·Permᴰ rs qs → met rs x ≡ met qs x

@@ -42,9 +42,8 @@ use Rattle.pack_check.specs.Check.{checkedBy, checkRules, checkPack}
 use Rattle.pack_check.specs.declared.PackCheck.{PackCheck}
 use Rattle.pack_check.specs.declared.PackCheck.the-variants.{Passes, Refused}
 use Rattle.select.specs.Select.{selectNumber, selectRules, selectOf}
-use Rattle.demands.specs.Packs.{Passed, Shuffle, Larger, Grown}
-use Rattle.demands.specs.Packs.Grown.{kept, named}
-use Rattle.demands.proofs.Counts.{met, wordMet, selected, met-perm, word-perm, met-append, word-append, word-added, word-none, some-met, at-index, index-at}
+use Rattle.demands.specs.Packs.{Passed, Shuffle, Larger, MeetsAdded, Grown}
+use Rattle.demands.proofs.Counts.{met, wordMet, selected, met-perm, word-perm, met-append, word-append, word-added, word-none, word-of, some-met, at-index, index-at}
 
 -- ---- (a) "a pack to which none of 20 to 26 applies passes exactly when no admitted number meets the conditions of two of its rules"
 
@@ -140,26 +139,41 @@ grown smaller added larger number d p q =
   where
     by : (rs qs : List Rule) → readPack smaller ≡ Rules rs → readPack larger ≡ Rules qs → AllApart rs → AllApart qs → List·Permᴰ (rs ++ map segmentRule added) qs
         → (r : Reading) → readNumber number ≡ r → Grown smaller larger number (map segmentRule added)
-    by rs qs e f h k dr (NumberRefused g) n = kept (rw (e, f, n))
+    by rs qs e f h k dr (NumberRefused g) n =
+        record {
+          named = λ j w m.
+              let z : NumberRefused g ≡ Is (m .operands) = sym n ∙ m .number-read in
+              never (cc);
+          kept = λ m. rw (e, f, n);
+        }
     by rs qs e f h k dr (Is x) n =
         let mr = read-few rs h number x n in
         let mq = read-few qs k number x n in
         let both-few : met (rs ++ map segmentRule added) x ≤ 1 = rw (met-perm x dr) mq in
+        let sum = met-append x rs (map segmentRule added) in
         let word-q : selectOf larger number ≡ Word (wordMet (rs ++ map segmentRule added) x) = rw (f, n) (selected x qs mq ∙ ap Word (sym (word-perm x dr both-few))) in
         let word-r : selectOf smaller number ≡ Word (wordMet rs x) = rw (e, n) (selected x rs mr) in
-        tested (eqb (met rs x) 0)
-        (λ z.
-        let none = eqb-true (met rs x) 0 z in
-        let other : wordMet rs x ≡ Other = word-of-none rs none in
-        tested (eqb (met (map segmentRule added) x) 0)
-        (λ y. kept (word-q ∙ ap Word (word-added x rs (map segmentRule added) none ∙ word-of-none (map segmentRule added) (eqb-true (met (map segmentRule added) x) 0 y) ∙ sym other) ∙ sym word-r))
-        (λ y.
-        let s = some-met x (map segmentRule added) (pos (eqb-false (met (map segmentRule added) x) 0 y)) in
-        named x (s .0) (wordMet (map segmentRule added) x) n (word-r ∙ ap Word other) (s .1) (word-q ∙ ap Word (word-added x rs (map segmentRule added) none))))
-        (λ z. kept (word-q ∙ ap Word (word-append x rs (map segmentRule added) (pos (eqb-false (met rs x) 0 z))) ∙ sym word-r))
+        record {
+          named = λ j w m.
+              let same : m .operands ≡ x = read-as (sym (m .number-read) ∙ n) in
+              let at = subst (λ (y : Number). MeetsAt y (map segmentRule added) j w) same (m .meets-it) in
+              let none : met rs x ≡ 0 = omega (arith, sum, both-few, counted x at) in
+              word-q ∙ ap Word (word-added x rs (map segmentRule added) none ∙ word-of x at (omega (arith, sum, both-few)));
+          kept = λ m.
+              tested (eqb (met rs x) 0)
+              (λ z.
+              let none = eqb-true (met rs x) 0 z in
+              let other : wordMet rs x ≡ Other = word-none x rs none in
+              tested (eqb (met (map segmentRule added) x) 0)
+              (λ y. word-q ∙ ap Word (word-added x rs (map segmentRule added) none ∙ word-none x (map segmentRule added) (eqb-true (met (map segmentRule added) x) 0 y) ∙ sym other) ∙ sym word-r)
+              (λ y.
+              let s = some-met x (map segmentRule added) (pos (eqb-false (met (map segmentRule added) x) 0 y)) in
+              absurd (m (s .0) (wordMet (map segmentRule added) x) (record { had-other = word-r ∙ ap Word other; operands = x; number-read = n; meets-it = s .1 }))))
+              (λ z. word-q ∙ ap Word (word-append x rs (map segmentRule added) (pos (eqb-false (met rs x) 0 z))) ∙ sym word-r);
+        }
       where
-        word-of-none : (l : List Rule) → met l x ≡ 0 → wordMet l x ≡ Other
-        word-of-none l z = word-none x l z
-
         pos : {m : ℕ} → (m ≡ 0 → ⊥) → 0 < m
         pos {m} g = omega arith
+
+        read-as : {y : Number} → Is y ≡ Is x → y ≡ x
+        read-as q = cc

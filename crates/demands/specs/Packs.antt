@@ -28,8 +28,15 @@ Shuffle pack other = List·Permᴰ (segments pack) (segments other)
 abbrev pub Larger : List ℕ → List (List ℕ) → List ℕ → Type 0
 Larger smaller added larger = List·Permᴰ (segments smaller ++ added) (segments larger)
 
+-- The number's text had `other` under the smaller pack and meets the added rule k, whose keyword is w.
+pub record MeetsAdded (smaller number : List ℕ) (added : List Rule) (k : ℕ) (w : Keyword) : Type 0 where
+  pub had-other : selectOf smaller number ≡ Word Other
+  pub operands : Number
+  pub number-read : readNumber number ≡ Is operands
+  pub meets-it : MeetsAt operands added k w
+
 -- "if a larger pack passes too, every admitted number keeps its word, except that one which had "other" and meets an added rule has that rule's word"
-pub data Grown (smaller larger number : List ℕ) (added : List Rule) : Type 0 where
-  kept : selectOf larger number ≡ selectOf smaller number → Grown smaller larger number added
-  named : (n : Number) (k : ℕ) (w : Keyword) → readNumber number ≡ Is n → selectOf smaller number ≡ Word Other → MeetsAt n added k w
-      → selectOf larger number ≡ Word w → Grown smaller larger number added
+pub record Grown (smaller larger number : List ℕ) (added : List Rule) : Type 0 where
+  pub named : (k : ℕ) (w : Keyword) → MeetsAdded smaller number added k w → selectOf larger number ≡ Word w
+  -- refused numbers among them
+  pub kept : ((k : ℕ) (w : Keyword) → MeetsAdded smaller number added k w → ⊥) → selectOf larger number ≡ selectOf smaller number
