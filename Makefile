@@ -9,7 +9,6 @@ SHELL := /bin/bash
 .PHONY: demo example pack bench test linked
 
 SCREEN := target/staticlib/libscreen.a
-PREPARED := target/staticlib/libprepared.a
 SOURCES := crates.txt $(shell find crates -name '*.rt' -o -name '*.antt')
 CARGO := cargo --offline --quiet
 RUST := --release --manifest-path rust/Cargo.toml
@@ -33,11 +32,11 @@ pack: $(SCREEN)
 	@test -n "$(FILE)" || { echo "make pack FILE=.. wants a file"; exit 2; }
 	@$(CARGO) run $(RUST) -p packreport -- "$(FILE)"
 
-bench: $(SCREEN) $(PREPARED)
-	@$(CARGO) run $(RUST) -p compare --features prepared --bin bench
+bench: $(SCREEN)
+	@$(CARGO) run $(RUST) -p compare --bin bench
 
 # What links the library: every entry from C with areas of every size, the C example, and the Rust side.
-linked: $(SCREEN) $(PREPARED)
+linked: $(SCREEN)
 	@cc $(CC_FLAGS) c/areas.c $(SCREEN) -o target/c/areas
 	@target/c/areas
 	@cc $(CC_FLAGS) c/example.c $(SCREEN) -o target/c/example

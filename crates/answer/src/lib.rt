@@ -7,9 +7,9 @@
 ghost use mathlib.Core.Path.{_≡_};
 ghost use Prim.Native.Nat.{_≤_};
 ghost use mathlib.Core.List.{[], _∷_};
-ghost use lib.ListN.{take};
 ghost use Rattle.answer.specs.Table.{numberRow, packRow, patternRow, symbolRow, numberOf, figuresOf};
 ghost use Rattle.answer.specs.Words.{spelling};
+ghost use Rattle.answer.specs.Lists.{figureList, letterList};
 use decimal::DigitValue;
 use decimal::Places;
 
@@ -80,7 +80,7 @@ pub enum Refusal {
     AreaTooShort(usize),
 }
 
-// The figures of a refusal: the first `count` of `values`.
+// The figures of a refusal: the first `count` of `values`, and zeros behind them.
 pub struct FigureList {
     pub count: usize,
     pub values: [u64; 6],
@@ -153,7 +153,7 @@ pub fn number(r: Refusal) -> u8
 }
 
 fn none() -> FigureList
-    ensures { λ r. ⌜ take (r .count) (r .values) ≡ [] ⌝ }
+    ensures { λ r. ⌜ r ≡ figureList [] ⌝ }
 {
     FigureList {
         count: 0,
@@ -162,7 +162,7 @@ fn none() -> FigureList
 }
 
 fn one(a: usize) -> FigureList
-    ensures { λ r. ⌜ take (r .count) (r .values) ≡ a ∷ [] ⌝ }
+    ensures { λ r. ⌜ r ≡ figureList (a ∷ []) ⌝ }
 {
     FigureList {
         count: 1,
@@ -171,13 +171,13 @@ fn one(a: usize) -> FigureList
 }
 
 fn of_place(p: Place) -> FigureList
-    ensures { λ r. ⌜ take (r .count) (r .values) ≡ p .0 ∷ [] ⌝ }
+    ensures { λ r. ⌜ r ≡ figureList (p .0 ∷ []) ⌝ }
 {
     one(p.0)
 }
 
 fn of_pair(p: Pair) -> FigureList
-    ensures { λ r. ⌜ take (r .count) (r .values) ≡ p .first ∷ p .second ∷ [] ⌝ }
+    ensures { λ r. ⌜ r ≡ figureList (p .first ∷ p .second ∷ []) ⌝ }
 {
     FigureList {
         count: 2,
@@ -186,7 +186,7 @@ fn of_pair(p: Pair) -> FigureList
 }
 
 fn of_clash(p: Pair, x: Witness) -> FigureList
-    ensures { λ r. ⌜ take (r .count) (r .values) ≡ p .first ∷ p .second ∷ x .e ∷ x .v .0 ∷ x .i ∷ x .f .0 ∷ [] ⌝ }
+    ensures { λ r. ⌜ r ≡ figureList (p .first ∷ p .second ∷ x .e ∷ x .v .0 ∷ x .i ∷ x .f .0 ∷ []) ⌝ }
 {
     let v = x.v;
     let f = x.f;
@@ -205,7 +205,7 @@ fn of_clash(p: Pair, x: Witness) -> FigureList
 
 // The figures that the row returns besides, in the table's order.
 pub fn figures(r: Refusal) -> FigureList
-    ensures { λ s. ⌜ take (s .count) (s .values) ≡ figuresOf r ⌝ }
+    ensures { λ s. ⌜ s ≡ figureList (figuresOf r) ⌝ }
 {
     match r {
         Refusal::Number(_) => none(),
@@ -229,14 +229,14 @@ pub enum Keyword {
     Other,
 }
 
-// A keyword's letters: the first `len` of `letters`.
+// A keyword's letters: the first `len` of `letters`, and zeros behind them.
 pub struct Letters {
     pub len: usize,
     pub letters: [u8; 5],
 }
 
 pub fn word(k: Keyword) -> Letters
-    ensures { λ r. ⌜ take (r .len) (r .letters) ≡ spelling k ⌝ }
+    ensures { λ r. ⌜ r ≡ letterList (spelling k) ⌝ }
 {
     match k {
         Keyword::Zero => Letters {

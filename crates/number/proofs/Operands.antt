@@ -6,22 +6,23 @@ use mathlib.Core.Logic.{_⊎_, ⊎-elim}
 use mathlib.Core.Option.{Option, none, some}
 use Prim.Native.Nat.{ℕ, zero, suc, _+_, _*_, _-_, _%_, _^_, _≤_, _<_}
 use native.Mathlib.Omega.{arith}
-use native.Mathlib.Nat.{suc-sub-suc, mod-eq-of-lt, mul-le-mul-right}
+use native.Mathlib.Nat.{suc-sub-suc, mod-eq-of-lt, mul-le-mul-right, mul-assoc, eq-of-mul-eq-mul-right, pow-suc}
+use lib.Pow.{pow-add}
 use lib.Dec.{ltb, eqb, eqb·suc-zero}
-use borrow.Author.Tests.{le-ltb, eqb-true, eqb-false, ne-eqb}
+use borrow.Author.Tests.{le-ltb, ltb-true, ltb-false, eqb-true, eqb-false, ne-eqb}
 use lib.ListN.{length, getD, take, drop, length-append}
 use Rattle.decimal.specs.Choice.{if_then_else_, both}
 use Rattle.decimal.specs.Digits.{isDigit, begins, run, valueFrom, value, first, lead, trim, figures, AllDigits}
 use Rattle.decimal.proofs.Choices.{choices, tested, not-both}
-use Rattle.decimal.proofs.Runs.{digits-head}
-use Rattle.decimal.proofs.Values.{power-pos}
-use Rattle.decimal.proofs.Zeros.{value-trim, trim-last}
+use Rattle.decimal.proofs.Runs.{digits-head, digits-take}
+use Rattle.decimal.proofs.Values.{power-pos, value-lt}
+use Rattle.decimal.proofs.Zeros.{value-trim, trim-front, trim-le, trim-last}
 use Rattle.decimal.proofs.Figured.{length-figures, digits-figures, value-figures}
 use Rattle.answer.specs.declared.NumberRow.the-variants.{NumberTooLong}
 use Rattle.number.specs.Limits.{maxBytes, maxExponent, maxDigits, maxPlaces}
 use Rattle.number.specs.Grammar.{Parts, isMark, isExponent, signText}
 use Rattle.number.specs.Reading.{partsFrom, exponentAt, fractionAt, pointAt, wholeAt, partsOf, afterZero, significant, integerAt, visibleAt, refuse, judge, judged, readNumber}
-use Rattle.number.specs.Admitted.{Admitted, wOf, tOf, numberFrom}
+use Rattle.number.specs.Admitted.{Admitted, wOf, tOf, Trimmed, numberFrom}
 use Rattle.number.specs.Alike.{negative, negated}
 use Rattle.number.specs.declared.Number.{Number}
 use Rattle.number.specs.declared.Reading.{Reading}
@@ -31,16 +32,12 @@ use Rattle.number.proofs.Admissible.{admitted, four-numbers}
 
 -- ---- w and t
 
--- f is t times 10 ^ (v - w); t is not divisible by ten unless f is 0; w and t are 0 where f is
-pub record Trimmed (v f w t : ℕ) : Type 0 where
-  pub scaled : f ≡ t * 10 ^ (v - w)
-  pub last : (f ≡ 0 → ⊥) → t % 10 ≡ 0 → ⊥
-  pub none : f ≡ 0 → (w ≡ 0) × (t ≡ 0)
-
 -- of every v and f, whatever the limits
 pub trimmed : (v f : ℕ) → f < 10 ^ v → Trimmed v f (wOf v f) (tOf v f)
 trimmed v f h =
     record {
+      places = omega (arith, trim-le s, length-figures v f);
+      room = value-lt (trim s) (rw (trim-front s) (digits-take (length (trim s)) s (digits-figures v f)));
       scaled = scaled;
       last = λ n z. ⊎-elim (λ e. n (scaled ∙ rw e (omega arith))) (λ k. k z) (trim-last 0 s (digits-figures v f));
       none = λ z. ⊎-elim (λ e. (rw e, rw e)) (λ k. absurd (k (zero-value z))) (trim-last 0 s (digits-figures v f));
@@ -57,6 +54,34 @@ trimmed v f h =
       where
         no-value : f ≡ 0 → value (trim (figures v f)) ≡ 0
         no-value z = omega (arith, scaled, mul-le-mul-right (value (trim (figures v f))) (power-pos (v - length (trim (figures v f)))))
+
+-- no other w and t are so
+pub trimmed-only : (v f w t x y : ℕ) → Trimmed v f w t → Trimmed v f x y → (w ≡ x) × (t ≡ y)
+trimmed-only v f w t x y p q =
+    tested (eqb f 0)
+    (λ z.
+    let a = p .none (eqb-true f 0 z) in
+    let b = q .none (eqb-true f 0 z) in
+    (a .0 ∙ sym (b .0), a .1 ∙ sym (b .1)))
+    (λ z.
+    let n = eqb-false f 0 z in
+    let e : w ≡ x = omega (arith, no-more p q n, no-more q p n) in
+    (e, eq-of-mul-eq-mul-right (10 ^ (v - w)) (power-pos (v - w)) t y (sym (p .scaled) ∙ (q .scaled ∙ ap (λ (k : ℕ). y * 10 ^ (v - k)) (sym e)))))
+  where
+    -- more places would end in a zero
+    no-more : {w t x y : ℕ} → Trimmed v f w t → Trimmed v f x y → (f ≡ 0 → ⊥) → x ≤ w
+    no-more {w} {t} {x} {y} p q n =
+        tested (ltb w x)
+        (λ l.
+        let k = x - w - 1 in
+        let h = ltb-true w x l in
+        let s : v - w ≡ suc k + (v - x) = omega (arith, q .places) in
+        let m : t * 10 ^ suc k ≡ y =
+        eq-of-mul-eq-mul-right (10 ^ (v - x)) (power-pos (v - x)) (t * 10 ^ suc k) y
+        (mul-assoc t (10 ^ suc k) (10 ^ (v - x)) ∙ (ap (λ (j : ℕ). t * j) (sym (pow-add 10 (suc k) (v - x))) ∙ (ap (λ (j : ℕ). t * 10 ^ j) (sym s) ∙ (sym (p .scaled) ∙ q .scaled)))) in
+        let d : t * 10 ^ suc k ≡ 10 * (t * 10 ^ k) = ap (λ (j : ℕ). t * j) (pow-suc 10 k) ∙ omega arith in
+        absurd (q .last n (ap (λ (j : ℕ). j % 10) (sym m ∙ d) ∙ omega arith)))
+        (λ l. ltb-false w x l)
 
 pub w-and-t : (s : List ℕ) (n : Number) → readNumber s ≡ Is n → Trimmed (n .v .0) (n .f .0) (n .w .0) (n .t .0)
 w-and-t s n e =

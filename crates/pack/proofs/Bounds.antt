@@ -1,4 +1,4 @@
--- What a pack that is read has at most: six rules, five of them with a condition, 40 clauses, 320 relations and 2,047 values or ranges.
+-- A pack that is read keeps the bounds of its arrays.
 use mathlib.Core.Path.{_≡_, refl, sym, ap, _∙_, subst}
 use mathlib.Core.Bool.{Bool, false}
 use mathlib.Core.List.{List, [], _∷_, _++_, map, append-nil}
@@ -31,35 +31,10 @@ use Rattle.grammar.proofs.Table.{long-other, long-rules, told-read}
 use Rattle.walk.specs.declared.Counts.{Counts}
 use Rattle.walk.specs.declared.Current.{Current}
 use Rattle.pack.specs.Board.{Arrays, arraysOf, Sized, boards, startWalk, lastBoard}
-use Rattle.pack.proofs.Flats.{flat}
+use Rattle.pack.specs.Bounds.{flat, conditioned, clausesOf, relationsOf, rangesOf, Bounds}
 use Rattle.pack.proofs.Tally.{tally-most}
 use Rattle.pack.proofs.Holds.{HoldsAt, Base, Ds, Cs, Rs, Gs, numbers, numbers-length, none, conditions, closedClauses}
 use Rattle.pack.proofs.Sims.{start, placed, sims, sim-step}
-
--- how many rules have a condition
-abbrev pub conditioned : List Rule → ℕ
-conditioned [] = 0
-conditioned (r ∷ rs) = some (r .clauses) + conditioned rs
-  where
-    some : List (List Relation) → ℕ
-    some [] = 0
-    some (c ∷ cs) = 1
-
-abbrev pub clausesOf : List Rule → List (List Relation)
-clausesOf rs = flat (map (λ (r : Rule). r .clauses) rs)
-
-abbrev pub relationsOf : List Rule → List Relation
-relationsOf rs = flat (clausesOf rs)
-
-abbrev pub rangesOf : List Rule → List Range
-rangesOf rs = flat (map (λ (r : Relation). r .ranges) (relationsOf rs))
-
-pub record Bounds (rs : List Rule) : Type 0 where
-  pub rules : length rs ≤ 6
-  pub conditions : conditioned rs ≤ 5
-  pub clauses : length (clausesOf rs) ≤ 40
-  pub relations : length (relationsOf rs) ≤ 320
-  pub ranges : length (rangesOf rs) < 2048
 
 conditioned-is : (d : List RuleTree) → conditioned (Ds d) ≡ conditions d
 conditioned-is [] = refl

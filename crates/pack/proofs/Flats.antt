@@ -13,16 +13,13 @@ use Rattle.rules.specs.Syntax.{Range, Relation, Rule}
 use Rattle.rules.specs.Held.{parts, keywordOf, rangesFrom, relationsFrom, rulesFrom, heldRules}
 use Rattle.grammar.specs.Limits.{maxBytes}
 use Rattle.walk.specs.Steps.{moreOf}
+use Rattle.pack.specs.Bounds.{flat}
 use Rattle.pack.specs.Board.{Arrays, packOf}
 
 pub more-is : (n : ℕ) → n < maxBytes → moreOf n ≡ suc n
 more-is n h = rw (lt-ltb n maxBytes h, add-one n)
 
 -- ---- lists of lists
-
-abbrev pub flat : {A : Type 0} → List (List A) → List A
-flat [] = []
-flat (x ∷ xs) = x ++ flat xs
 
 pub flat-snoc : {A : Type 0} (xs : List (List A)) (x : List A) → flat (xs ++ (x ∷ [])) ≡ flat xs ++ x
 flat-snoc [] x = append-nil x

@@ -24,7 +24,8 @@ use Rattle.walk.specs.declared.Closes.{Closes}
 use Rattle.walk.specs.declared.Counts.{Counts}
 use Rattle.walk.specs.declared.Current.{Current}
 use Rattle.pack.specs.Board.{Arrays, Sized, filled}
-use Rattle.pack.proofs.Flats.{more-is, flat, flat-snoc, map-snoc, Ranges, Relations, Clauses, Rules}
+use Rattle.pack.specs.Bounds.{flat}
+use Rattle.pack.proofs.Flats.{more-is, flat-snoc, map-snoc, Ranges, Relations, Clauses, Rules}
 use Rattle.pack.proofs.Levels.{ranges-more, ranges-last, relations-more, clauses-more, rules-more}
 use Rattle.pack.proofs.Tally.{Tally, tally-bare, tally-named, tally-room, tally-conditions, keyword-number, number-other}
 

@@ -8,7 +8,8 @@ use lib.ListN.{length, set, length-append}
 use Rattle.rules.specs.Syntax.{Range, Relation, Rule}
 use Rattle.grammar.specs.Limits.{maxBytes}
 use Rattle.walk.specs.Steps.{moreOf}
-use Rattle.pack.proofs.Flats.{more-is, flat, map-snoc, endsOf, ends-snoc, fill-more, fill-last, Ranges, Relations, Clauses, Rules}
+use Rattle.pack.specs.Bounds.{flat}
+use Rattle.pack.proofs.Flats.{more-is, map-snoc, endsOf, ends-snoc, fill-more, fill-last, Ranges, Relations, Clauses, Rules}
 
 one-more : {A : Type 0} (n : ℕ) (xs : List A) (x : A) → n < maxBytes → n ≡ length xs → moreOf n ≡ length (xs ++ (x ∷ []))
 one-more n xs x h e = more-is n h ∙ omega (arith, length-append xs (x ∷ []))

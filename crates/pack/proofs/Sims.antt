@@ -11,6 +11,7 @@ use Rattle.decimal.specs.Choice.{if_then_else_}
 use Rattle.decimal.proofs.Choices.{choice, tested, not-both}
 use Rattle.rules.specs.Syntax.{Relation}
 use Rattle.rules.specs.Held.{heldRules}
+use Rattle.rules.specs.declared.Pack.{Pack}
 use Rattle.token.specs.Spelling.{same}
 use Rattle.token.specs.Token.{pieceLen, isWhite, dots, differ, Token, tokensFor, tokens}
 use Rattle.token.proofs.Pieces.{piece}
@@ -22,10 +23,10 @@ use Rattle.grammar.specs.RuleOf.{ruleOf}
 use Rattle.grammar.specs.Steps.{Front, State, goOn, signed, step, Read, ends}
 use Rattle.grammar.specs.Steps.State.{WantsName, WantsColon, WantsNothing, WantsOperand, HasOperand, WantsModulus, HasModulus, WantsValue, HasValue, WantsUpper, HasUpper, Dead as Died}
 use Rattle.grammar.specs.Steps.Read.{Whole, Cut}
-use Rattle.grammar.specs.Reader.{isDead, Parsed, Fault, orElse, faultAt, rowOf, judge, readPack}
+use Rattle.grammar.specs.Reader.{isDead, Parsed, Fault, orElse, faultAt, rowOf, PackAnswer, segments, rulesFrom, faultFrom, judge, readPack}
 use Rattle.grammar.specs.Reader.Parsed.{Trees, Bad}
 use Rattle.grammar.specs.Reader.Fault.{None, At}
-use Rattle.grammar.specs.Reader.PackAnswer.{Refused as AnswerRefused}
+use Rattle.grammar.specs.Reader.PackAnswer.{Rules, Refused as AnswerRefused}
 use Rattle.answer.specs.Table.{packRow}
 use Rattle.answer.specs.declared.PackRow.{PackRow}
 use Rattle.answer.specs.declared.PackRow.the-variants.{NotAPack, ValueTooLarge, UnlistedModulus, RangeReversed, BadKeyword, TooMany}
@@ -43,12 +44,13 @@ use Rattle.walk.specs.declared.Counts.{Counts}
 use Rattle.walk.specs.declared.Current.{Current}
 use Rattle.walk.specs.declared.Mark.{Mark}
 use Rattle.walk.specs.declared.Walk.{Walk}
-use Rattle.pack.specs.Answer.{verdictAt, verdictOf, rulesOf}
+use Rattle.pack.specs.Answer.{verdictAt, verdictOf, rulesOf, rowIn, placeOf, ReadAs}
 use Rattle.pack.specs.Board.{Arrays, Sized, Board, boardAfter, boards, startWalk, within4096, faultVerdict, judged, judgedAll, counted, outcomeOf, lastBoard, packOf}
 use Rattle.pack.specs.declared.Outcome.{Outcome as Numbers}
 use Rattle.pack.specs.declared.Verdict.{Verdict}
 use Rattle.pack.specs.declared.Verdict.the-variants.{Good, Refused}
-use Rattle.pack.proofs.Flats.{flat, held-back}
+use Rattle.pack.specs.Bounds.{flat}
+use Rattle.pack.proofs.Flats.{held-back}
 use Rattle.pack.proofs.Tally.{no-tally}
 use Rattle.pack.proofs.Holds.{HoldsAt, Base, Ds, Cs, Rs, Gs, numbers, none, closedClauses}
 use Rattle.pack.proofs.Moves.{rowOn, row-is, move}
@@ -309,19 +311,24 @@ fault-verdict row place f rs e = go (eqb row 0) refl e
 
 pub record Answered (b : Board) (p : Parsed) (f : Fault) : Type 0 where
   pub verdict : judged (b .walk) ≡ verdictOf (judge p f)
+  pub count : counted (judged (b .walk)) (b .walk .counts .rules) ≡ length (rulesOf (judge p f))
   pub rules : heldRules (packOf (b .arrays) (counted (judged (b .walk)) (b .walk .counts .rules))) ≡ rulesOf (judge p f)
 
 answered-bad : (b : Board) (x : ℕ) (f : Fault) → Over b x → Answered b (Bad x) f
 answered-bad b x f h =
     let v : judged (b .walk) ≡ verdictOf (judge (Bad x) f) = rw (h .phase, h .stop) in
-    record { verdict = v; rules = rw v }
+    record { verdict = v; count = rw v; rules = rw v }
 
 answered-trees : (b : Board) (d rs : List RuleTree) (f : Fault) (at : ℕ) → b .walk .phase ≡ Name → faultAt (b .walk .mark .row) (b .walk .mark .place) ≡ f
     → (f ≡ None → Base d none [] (b .walk .counts) (b .arrays) at) → rs ≡ d → Answered b (Trees rs) f
 answered-trees b d rs f at e g h q =
     let v : judged (b .walk) ≡ verdictOf (judge (Trees rs) f) = rw e (fault-verdict (b .walk .mark .row) (b .walk .mark .place) f rs g) in
-    record { verdict = v; rules = rw v (go f refl) }
+    record { verdict = v; count = rw v (size f refl); rules = rw v (go f refl) }
   where
+    size : (x : Fault) → f ≡ x → counted (verdictOf (judge (Trees rs) x)) (b .walk .counts .rules) ≡ length (rulesOf (judge (Trees rs) x))
+    size None k = h k .kept .rules .count ∙ ap (λ (l : List RuleTree). length (map ruleOf l)) (sym q)
+    size (At n y) k = refl
+
     go : (x : Fault) → f ≡ x → heldRules (packOf (b .arrays) (counted (verdictOf (judge (Trees rs) x)) (b .walk .counts .rules))) ≡ rulesOf (judge (Trees rs) x)
     go None k = held d (b .walk .counts) (b .arrays) at (h k) ∙ ap (map ruleOf) (sym q)
     go (At n y) k = refl
@@ -349,17 +356,63 @@ answered a s z l = go (halt outset (tokens 0 s) (length s)) refl (outcome (token
 -- ANSWER: a short pack's last board has its answer and its rules
 pub answer : (a : Arrays) (s : Text) → Sized a → length s ≤ maxBytes
     → (judged (lastBoard a s .walk) ≡ verdictOf (readPack s))
+    × (counted (judged (lastBoard a s .walk)) (lastBoard a s .walk .counts .rules) ≡ length (rulesOf (readPack s)))
     × (heldRules (packOf (lastBoard a s .arrays) (counted (judged (lastBoard a s .walk)) (lastBoard a s .walk .counts .rules))) ≡ rulesOf (readPack s))
 answer a s z l =
     let e : readPack s ≡ judge (halt outset (tokens 0 s) (length s)) (faults outset (tokens 0 s)) = rw (read-whole s, le-ltb maxBytes (length s) l) in
     let w = answered a s z l in
-    (w .verdict ∙ ap verdictOf (sym e), w .rules ∙ ap rulesOf (sym e))
+    (w .verdict ∙ ap verdictOf (sym e), w .count ∙ ap (λ (x : PackAnswer). length (rulesOf x)) (sym e), w .rules ∙ ap rulesOf (sym e))
 
 -- ---- what `read_pack` returns
 
--- the verdict's numbers tell the verdict
-abbrev Told : Verdict → Type 0
-Told v = (n : ℕ) → verdictAt (outcomeOf v n .row) (outcomeOf v n .place) ≡ v
+-- a verdict's row and place are those of the answer
+row-as : (a : PackAnswer) (n : ℕ) → outcomeOf (verdictOf a) n .row ≡ rowIn a
+row-as (Rules rs) n = refl
+row-as (AnswerRefused r) n = refl
+
+place-as : (a : PackAnswer) (n : ℕ) → outcomeOf (verdictOf a) n .place ≡ placeOf a
+place-as (Rules rs) n = refl
+place-as (AnswerRefused r) n = refl
+
+counts-as : (v : Verdict) (n : ℕ) → outcomeOf v n .count ≡ counted v n
+counts-as Good n = refl
+counts-as (Refused r) n = refl
+
+-- a short pack's walk, and that of any other, gives the verdict
+judged-as : (a e : Arrays) (u : Walk) (s : Text) → Sized a → record { walk = u; arrays = e } ≡ lastBoard a (within4096 s)
+    → (judgedAll (length s) u ≡ verdictOf (readPack s))
+    × (counted (judgedAll (length s) u) (u .counts .rules) ≡ length (rulesOf (readPack s)))
+    × (heldRules (packOf e (counted (judgedAll (length s) u) (u .counts .rules))) ≡ rulesOf (readPack s))
+judged-as a e u s z q =
+    tested (ltb maxBytes (length s))
+    (λ k. (rw k, rw k, rw k))
+    (λ k.
+    let f : record { walk = u; arrays = e } ≡ lastBoard a s = rw k at q in
+    let w = answer a s z (ltb-false maxBytes (length s) k) in
+    let j : judgedAll (length s) u ≡ judged u = rw k in (
+      j ∙ (ap (λ (x : Board). judged (x .walk)) f ∙ w .0),
+      ap (λ (v : Verdict). counted v (u .counts .rules)) j ∙ (ap (λ (x : Board). counted (judged (x .walk)) (x .walk .counts .rules)) f ∙ w .1),
+      ap (λ (v : Verdict). heldRules (packOf e (counted v (u .counts .rules)))) j
+          ∙ (ap (λ (x : Board). heldRules (packOf (x .arrays) (counted (judged (x .walk)) (x .walk .counts .rules)))) f ∙ w .2),
+    ))
+
+-- the pack of these arrays, with the numbers of the verdict on the walk, is the answer
+pub told : (a e : Arrays) (u : Walk) (s : Text) {v : Verdict} {o : Numbers} → Sized a → record { walk = u; arrays = e } ≡ lastBoard a (within4096 s)
+    → v ≡ judgedAll (length s) u → o ≡ outcomeOf v (u .counts .rules)
+    → (o .row ≡ rowIn (readPack s)) × (o .place ≡ placeOf (readPack s)) × (o .count ≡ length (rulesOf (readPack s)))
+    × (heldRules (packOf e (o .count)) ≡ rulesOf (readPack s))
+told a e u s {v} {o} z q hv ho =
+    let n = u .counts .rules in
+    let w = judged-as a e u s z q in
+    let h : o ≡ outcomeOf (verdictOf (readPack s)) n = ho ∙ ap (λ (x : Verdict). outcomeOf x n) (hv ∙ w .0) in
+    let c : o .count ≡ counted (judgedAll (length s) u) n = ap (λ (x : Numbers). x .count) (ho ∙ ap (λ (x : Verdict). outcomeOf x n) hv) ∙ counts-as (judgedAll (length s) u) n in (
+      ap (λ (x : Numbers). x .row) h ∙ row-as (readPack s) n,
+      ap (λ (x : Numbers). x .place) h ∙ place-as (readPack s) n,
+      c ∙ w .1,
+      ap (λ (k : ℕ). heldRules (packOf e k)) c ∙ w .2,
+    )
+
+-- ---- the row and the place tell the verdict
 
 row-told : (row : PackRow) (place : ℕ) → verdictAt (packRow row) place ≡ Refused (OfPack row (record { 0 = place }))
 row-told NotAPack place = refl
@@ -369,27 +422,15 @@ row-told RangeReversed place = refl
 row-told BadKeyword place = refl
 row-told TooMany place = refl
 
-judged-told : (w : Walk) → Told (judged w)
-judged-told w =
-    choice Told (eqb (phaseNumber (w .phase)) 0)
-    (λ _. choice Told (eqb (w .mark .row) 0) (λ _ n. refl) (λ _ n. row-told (rowOf (w .mark .row)) (w .mark .place))) (λ _ n. refl)
+judge-told : (p : Parsed) (f : Fault) → verdictAt (rowIn (judge p f)) (placeOf (judge p f)) ≡ verdictOf (judge p f)
+judge-told (Bad a) f = refl
+judge-told (Trees rs) None = refl
+judge-told (Trees rs) (At n a) = row-told (rowOf n) a
 
-counts-as : (v : Verdict) (n : ℕ) → outcomeOf v n .count ≡ counted v n
-counts-as Good n = refl
-counts-as (Refused r) n = refl
+answer-told : (s : Text) → verdictAt (rowIn (readPack s)) (placeOf (readPack s)) ≡ verdictOf (readPack s)
+answer-told s =
+    choice (λ (a : PackAnswer). verdictAt (rowIn a) (placeOf a) ≡ verdictOf a) (ltb maxBytes (length s)) (λ _. refl)
+    (λ _. judge-told (rulesFrom 0 (segments s)) (faultFrom [] 0 (segments s)))
 
-pub told : (a e : Arrays) (u : Walk) (s : Text) {v : Verdict} {o : Numbers} → Sized a → record { walk = u; arrays = e } ≡ lastBoard a (within4096 s)
-    → v ≡ judgedAll (length s) u → o ≡ outcomeOf v (u .counts .rules)
-    → (verdictAt (o .row) (o .place) ≡ verdictOf (readPack s)) × (heldRules (packOf e (o .count)) ≡ rulesOf (readPack s))
-told a e u s {v} {o} z q hv ho =
-    tested (ltb maxBytes (length s))
-    (λ k. let r : readPack s ≡ AnswerRefused PackTooLong = rw k in
-    let h : o ≡ outcomeOf (Refused PackTooLong) (u .counts .rules) = ho ∙ ap (λ (x : Verdict). outcomeOf x (u .counts .rules)) (rw k at hv) in
-    (ap (λ (x : Numbers). verdictAt (x .row) (x .place)) h ∙ sym (ap verdictOf r), ap (λ (x : Numbers). heldRules (packOf e (x .count))) h ∙ sym (ap rulesOf r)))
-    (λ k. let f : record { walk = u; arrays = e } ≡ lastBoard a s = rw k at q in
-    let h : o ≡ outcomeOf (judged u) (u .counts .rules) = ho ∙ ap (λ (x : Verdict). outcomeOf x (u .counts .rules)) (rw k at hv) in
-    let w = answer a s z (ltb-false maxBytes (length s) k) in (
-      ap (λ (x : Numbers). verdictAt (x .row) (x .place)) h ∙ judged-told u (u .counts .rules) ∙ ap (λ (x : Board). judged (x .walk)) f ∙ w .0,
-      ap (λ (x : Numbers). heldRules (packOf e (x .count))) h ∙ ap (λ (n : ℕ). heldRules (packOf e n)) (counts-as (judged u) (u .counts .rules))
-          ∙ ap (λ (x : Board). heldRules (packOf (x .arrays) (counted (judged (x .walk)) (x .walk .counts .rules)))) f ∙ w .1,
-    ))
+pub verdict-told : (s : Text) (p : Pack) → ReadAs (readPack s) p → verdictAt (p .row) (p .place) ≡ verdictOf (readPack s)
+verdict-told s p r = ap (λ (n : ℕ). verdictAt n (p .place)) (r .row) ∙ (ap (verdictAt (rowIn (readPack s))) (r .place) ∙ answer-told s)

@@ -9,8 +9,7 @@ use lib.ListN.{length, take, drop, set}
 use Rattle.decimal.specs.Choice.{if_then_else_}
 use Rattle.answer.specs.declared.PackRow.the-variants.{NotAPack}
 use Rattle.answer.specs.Table.{numberOf}
-use Rattle.answer.specs.declared.Refusal.{Refusal}
-use Rattle.answer.specs.declared.Refusal.the-variants.{Number, PackTooLong, Pack as OfPack, TwoRulesMet, RulesClash, Pattern, Symbols, PrintedExponent, AreaTooShort}
+use Rattle.answer.specs.declared.Refusal.the-variants.{PackTooLong, Pack as OfPack}
 use Rattle.rules.specs.Held.{lent}
 use Rattle.rules.specs.declared.Pack.{Pack}
 use Rattle.token.specs.Token.{whiteLen, Token, tokens}
@@ -24,6 +23,7 @@ use Rattle.walk.specs.declared.Counts.{Counts}
 use Rattle.walk.specs.declared.Closes.{Closes}
 use Rattle.walk.specs.declared.Current.{Current}
 use Rattle.walk.specs.declared.Walk.{Walk}
+use Rattle.pack.specs.Answer.{placeIn}
 use Rattle.pack.specs.declared.Outcome.{Outcome}
 use Rattle.pack.specs.declared.Verdict.{Verdict}
 use Rattle.pack.specs.declared.Verdict.the-variants.{Good, Refused}
@@ -135,17 +135,6 @@ judgedAll n w = if ltb maxBytes n then Refused PackTooLong else judged w
 abbrev pub counted : Verdict → ℕ → ℕ
 counted Good n = n
 counted (Refused r) n = 0
-
-abbrev pub placeIn : Refusal → ℕ
-placeIn (Number row) = 0
-placeIn PackTooLong = 0
-placeIn (OfPack row at) = at .0
-placeIn (TwoRulesMet pair) = 0
-placeIn (RulesClash pair x) = 0
-placeIn (Pattern row) = 0
-placeIn (Symbols row) = 0
-placeIn PrintedExponent = 0
-placeIn (AreaTooShort n) = 0
 
 -- a verdict as numbers, and how many rules there are: none where the pack is refused
 abbrev pub outcomeOf : Verdict → ℕ → Outcome

@@ -7,11 +7,10 @@
 ghost use mathlib.Core.Path.{_≡_};
 ghost use lib.ListN.{length};
 ghost use Prim.Native.Nat.{_-_, _≤_};
-ghost use Rattle.rules.specs.Held.{heldRules};
 ghost use Rattle.grammar.specs.Reader.{rowOf, readPack};
 ghost use Rattle.walk.specs.Steps.{stepAfter};
-ghost use Rattle.pack.specs.Answer.{packRowAt, verdictAt, verdictOf, rulesOf};
-ghost use Rattle.pack.specs.Board.{setIf, tokenAt, startWalk, within4096, Skipped, faultVerdict, judged, judgedAll, placeIn, outcomeOf};
+ghost use Rattle.pack.specs.Answer.{placeIn, packRowAt, verdictAt, ReadAs};
+ghost use Rattle.pack.specs.Board.{setIf, tokenAt, startWalk, within4096, Skipped, faultVerdict, judged, judgedAll, outcomeOf};
 use answer::PackRow;
 use answer::Place;
 use answer::Refusal;
@@ -315,9 +314,9 @@ pub fn verdict_of(row: u8, place: usize) -> Verdict
     Verdict::Refused(Refusal::Pack(pack_row(row), Place(place)))
 }
 
-// Reads a pack, any bytes: its rules, or refusal 20 to 26.
+// Reads a pack, any bytes: its rules, or the row and place of refusal 20 to 26.
 pub fn read_pack(text: &[u8]) -> Pack
-    ensures { λ r. ⌜ (verdictAt (r .row) (r .place) ≡ verdictOf (readPack (now (text .entry)))) × (heldRules r ≡ rulesOf (readPack (now (text .entry)))) ⌝ }
+    ensures { λ r. ⌜ ReadAs (readPack (now (text .entry))) r ⌝ }
 {
     let s = within(text);
     let end = b";";

@@ -1,8 +1,8 @@
 // Chooses the plural word of a number by the rules of a pack.
 //
-// The entries are select_rule, for a parsed pack and a read number, and select_held, the same for a
-// pack whose arrays are lent: a pack that is kept serves many numbers without a copy of it. specs/Meaning.antt
-// says what rules mean of a number, specs/Select.antt which word that gives.
+// The entry is select_held, for a read number and a parsed pack whose arrays are lent: a pack that is
+// kept serves many numbers without a copy of it. specs/Meaning.antt says what rules mean of a number,
+// specs/Select.antt which word that gives.
 mod mask;
 mod meaning;
 
@@ -15,7 +15,6 @@ use answer::Keyword;
 use answer::Pair;
 use answer::Refusal;
 use number::Number;
-use rules::Pack;
 
 pub enum Selection {
     Word(Keyword),
@@ -110,23 +109,4 @@ pub fn select_held<'a>(
         first: behind as u8,
         second: (second + 1) as u8,
     }))
-}
-
-// The same for a parsed pack.
-pub fn select_rule(p: Pack, x: Number) -> Selection
-    ensures { λ r. ⌜ r ≡ selection (heldRules p) x ⌝ }
-{
-    select_held(
-        &p.operand,
-        &p.modulus,
-        &p.negated,
-        &p.ranges,
-        &p.low,
-        &p.high,
-        &p.relations,
-        &p.keyword,
-        &p.clauses,
-        p.count,
-        x,
-    )
 }

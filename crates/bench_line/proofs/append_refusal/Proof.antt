@@ -4,6 +4,7 @@ use mathlib.Core.Path.{ap, _∙_}
 use mathlib.Core.List.{List, _∷_}
 use Prim.Native.Nat.{ℕ}
 use Rattle.decimal.specs.Digits.{numeral}
+use Rattle.answer.proofs.Lists.{figures-told}
 use Rattle.area.proofs.Pieces.{joined, renamed}
 use Rattle.bench_line.specs.Lines.{spaced}
 use borrow.Author.Needs.{needs}
@@ -41,7 +42,8 @@ returns : tie.Need-returns
 returns c =
     let w = c .before .before .before .before .before .before .before .before .before .before .before .before .wide .ensures in
     let n = c .before .before .before .before .before .before .before .before .before .before .before .before .before .number .ensures in
-    let f = c .before .before .before .before .before .before .before .figures .ensures in
+    let g = c .before .before .before .before .before .before .before .figures in
+    let f = figures-told (g .result) (c .before .before .before .before .before .before .before .before .before .before .before .before .before .before .before .before .before .before .before .before .before .before .before .before .args .refusal) (g .ensures) in
     let p1 = c .before .before .before .before .before .before .before .before .before .before .before .before .before .before .before .before .before .before .before .before .before .put .ensures in
     let p2 = c .before .before .before .before .before .before .before .before .before .before .before .before .before .before .before .before .before .put2 .ensures in
     let p3 = renamed (ap (λ (k : ℕ). 32 ∷ numeral k) (w ∙ n)) (c .before .before .before .before .before .before .before .before .before .before .before .append-spaced .ensures) in

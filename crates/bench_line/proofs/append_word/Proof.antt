@@ -1,6 +1,7 @@
 -- `bench_line::append_word` writes its pieces one behind the other.
 use native.Mathlib.Omega.{arith}
 use mathlib.Core.Path.{_∙_}
+use Rattle.answer.proofs.Lists.{letters-told}
 use Rattle.area.proofs.Pieces.{joined, renamed}
 use borrow.Author.Needs.{needs}
 use Rattle.bench_line.proofs.append_word.Statement.{statement}
@@ -33,7 +34,9 @@ same-length c = search needs
 returns : tie.Need-returns
 returns c =
     let a = c .before .before .before .before .before .before .before .before .before .before .before .before .append .ensures in
-    let e = c .before .before .before .before .before .before .before .upto .ensures ∙ c .before .before .before .before .before .before .before .before .before .before .before .before .before .before .before .before .word .ensures in
+    let w = c .before .before .before .before .before .before .before .before .before .before .before .before .before .before .before .before .word in
+    let e =
+    c .before .before .before .before .before .before .before .upto .ensures ∙ letters-told (w .result) (c .before .before .before .before .before .before .before .before .before .before .before .before .before .before .before .before .before .before .args .k) (w .ensures) in
     let b = renamed e (c .before .before .before .before .before .before .append2 .ensures) in
     joined (omega arith) (joined (omega arith) a b) (c .before .before .put .ensures)
 

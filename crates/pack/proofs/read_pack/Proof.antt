@@ -101,8 +101,10 @@ numbered-requires c κs = search needs
 returns : tie.Need-returns Inv-loop μ-loop
 returns c =
     let l = c .before .before .before .before .loop in
+    let w =
     told made (arraysOf (l .p .low) (l .p .high) (l .p .operand) (l .p .modulus) (l .p .negated) (l .p .ranges) (l .p .relations) (l .p .keyword) (l .p .clauses)) (l .w) (c .before .before .before .before .before .before .before .before .before .before .args .text .now) made-sized (stands-last (l .inv) (c .before .before .before .loop-test .left) ∙ ap (lastBoard made) (c .before .before .before .before .before .before .before .before .within .ensures))
-    (c .before .judge-all .ensures) (c .numbered .ensures)
+    (c .before .judge-all .ensures) (c .numbered .ensures) in
+    record { row = w .0; place = w .1; count = w .2; rules = w .3 }
 
 pub read-pack-spec : {M : Type 1} → statement M
 read-pack-spec =

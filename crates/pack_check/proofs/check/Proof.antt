@@ -4,6 +4,7 @@ use Rattle.grammar.specs.Reader.{readPack}
 use Rattle.rules.specs.Held.{heldRules}
 use Rattle.pack_check.specs.Check.{checkedBy}
 use Rattle.pack_check.proofs.Order.{good, bad}
+use Rattle.pack.proofs.Sims.{verdict-told}
 use borrow.Author.Needs.{needs}
 use Rattle.pack_check.proofs.check.Statement.{statement}
 use Rattle.pack_check.proofs.check.Tie as tie
@@ -32,14 +33,14 @@ returns c =
     let p = c .before .before .before .before .before .read-pack in
     let v = c .before .before .before .before .verdict-of in
     c .checked-by .ensures ∙ ap checkedBy (c .before .check .ensures)
-    ∙ good (readPack (a .pack .now)) (v .result) (heldRules (p .result)) (v .ensures ∙ p .ensures .0) (c .before .before .enum-told .given .1) (p .ensures .1)
+    ∙ good (readPack (a .pack .now)) (v .result) (heldRules (p .result)) (v .ensures ∙ verdict-told (a .pack .now) (p .result) (p .ensures)) (c .before .before .enum-told .given .1) (p .ensures .rules)
 
 returns-2 : tie.Need-returns-2
 returns-2 c =
     let a = c .before .before .before .before .before .before .args in
     let p = c .before .before .before .before .read-pack in
     let v = c .before .before .before .verdict-of in
-    bad (readPack (a .pack .now)) (v .result) _ (v .ensures ∙ p .ensures .0) (c .before .verdict .given .1)
+    bad (readPack (a .pack .now)) (v .result) _ (v .ensures ∙ verdict-told (a .pack .now) (p .result) (p .ensures)) (c .before .verdict .given .1)
 
 pub check-spec : {M : Type 1} → statement M
 check-spec =

@@ -1,5 +1,6 @@
 -- `screen::note_refusal` stores the figures of the table.
 use mathlib.Core.Path.{refl, ap, _∙_}
+use Rattle.answer.proofs.Lists.{figures-told}
 use Rattle.screen.specs.Entries.{noted}
 use borrow.Author.Needs.{needs}
 use Rattle.screen.proofs.note_refusal.Statement.{statement}
@@ -22,9 +23,10 @@ cast-result c = search needs
 
 returns : tie.Need-returns
 returns c =
-    let a = c .before .before .before .before .before .before .args in (
+    let a = c .before .before .before .before .before .before .args in
+    let l = c .before .before .before .before .before .figures in (
       c .number .ensures,
-      c .before .note .ensures ∙ ap (λ s. noted s (a .figures .now)) (c .before .before .before .before .before .figures .ensures),
+      c .before .note .ensures ∙ ap (λ s. noted s (a .figures .now)) (figures-told (l .result) (a .refusal) (l .ensures)),
     )
 
 pub note-refusal-spec : {M : Type 1} → statement M

@@ -4,6 +4,7 @@ use Rattle.grammar.specs.Reader.{readPack}
 use Rattle.number.specs.Reading.{readNumber}
 use Rattle.rules.specs.Held.{heldRules}
 use Rattle.select.proofs.Order.{word, unread, bad}
+use Rattle.pack.proofs.Sims.{verdict-told}
 use borrow.Author.Needs.{needs}
 use Rattle.select.proofs.select.Statement.{statement}
 use Rattle.select.proofs.select.Tie as tie
@@ -38,7 +39,7 @@ returns c =
     let p = c .before .before .before .before .before .before .before .before .before .before .before .before .before .before .before .before .before .read-pack in
     let n = c .before .before .before .before .before .before .before .before .before .before .before .before .before .before .before .before .before .before .read-number in
     let v = c .before .before .before .before .before .before .before .before .before .before .before .before .before .before .before .before .verdict-of in
-    c .select-held .ensures ∙ word (readPack (a .pack .now)) (v .result) (heldRules (p .result)) _ (n .result) (readNumber (a .number .now)) (v .ensures ∙ p .ensures .0) (c .before .before .before .before .before .before .before .before .before .before .before .before .before .before .enum-told .given .1) (p .ensures .1) (n .ensures) (c .before .before .before .before .before .before .before .before .before .before .before .before .reading .given .1)
+    c .select-held .ensures ∙ word (readPack (a .pack .now)) (v .result) (heldRules (p .result)) _ (n .result) (readNumber (a .number .now)) (v .ensures ∙ verdict-told (a .pack .now) (p .result) (p .ensures)) (c .before .before .before .before .before .before .before .before .before .before .before .before .before .before .enum-told .given .1) (p .ensures .rules) (n .ensures) (c .before .before .before .before .before .before .before .before .before .before .before .before .reading .given .1)
 
 returns-2 : tie.Need-returns-2
 returns-2 c =
@@ -46,14 +47,14 @@ returns-2 c =
     let p = c .before .before .before .before .before .before .read-pack in
     let n = c .before .before .before .before .before .before .before .read-number in
     let v = c .before .before .before .before .before .verdict-of in
-    unread (readPack (a .pack .now)) (v .result) (heldRules (p .result)) _ (n .result) (readNumber (a .number .now)) (v .ensures ∙ p .ensures .0) (c .before .before .before .enum-told .given .1) (p .ensures .1) (n .ensures) (c .before .reading2 .given .1)
+    unread (readPack (a .pack .now)) (v .result) (heldRules (p .result)) _ (n .result) (readNumber (a .number .now)) (v .ensures ∙ verdict-told (a .pack .now) (p .result) (p .ensures)) (c .before .before .before .enum-told .given .1) (p .ensures .rules) (n .ensures) (c .before .reading2 .given .1)
 
 returns-3 : tie.Need-returns-3
 returns-3 c =
     let a = c .before .before .before .before .before .before .before .before .args in
     let p = c .before .before .before .before .read-pack in
     let v = c .before .before .before .verdict-of in
-    bad (readPack (a .pack .now)) (v .result) _ (readNumber (a .number .now)) (v .ensures ∙ p .ensures .0) (c .before .verdict .given .1)
+    bad (readPack (a .pack .now)) (v .result) _ (readNumber (a .number .now)) (v .ensures ∙ verdict-told (a .pack .now) (p .result) (p .ensures)) (c .before .verdict .given .1)
 
 pub select-spec : {M : Type 1} → statement M
 select-spec =

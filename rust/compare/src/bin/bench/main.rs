@@ -1,6 +1,5 @@
 //! Times of the proved library and of the ordinary Rust on the same inputs in the same process.
 
-mod prepared;
 mod table;
 mod timer;
 
@@ -9,7 +8,7 @@ use okwazibelu::raw;
 use plain::Refusal;
 use std::hint::black_box;
 use table::Table;
-use timer::{time, times};
+use timer::times;
 
 fn main() {
     println!(
@@ -24,7 +23,6 @@ fn main() {
     let mut table = Table::default();
     read_number(&mut table);
     select(&mut table);
-    select_prepared(&mut table);
     check(&mut table);
     print(&mut table);
     table.summary();
@@ -102,24 +100,6 @@ fn select(table: &mut Table) {
             let answer = named(answer, |keyword| keyword.name().to_string());
             table.row(&format!("{language}, {number}  ({answer})"), times);
         }
-    }
-}
-
-/// The times are of one number each, the reading of the pack spread over all of them.
-fn select_prepared(table: &mut Table) {
-    const COUNT: u64 = 1000;
-    table.job("select, prepared: 0 to 999 from a pack read once, time a number");
-    for (language, pack) in languages() {
-        let pack = pack.as_bytes();
-        let plain = || prepared::plain_words(black_box(pack), black_box(0), black_box(COUNT));
-        let Some(words) = prepared::proved_words() else {
-            table.plain_row(language, time(plain) / COUNT as f64);
-            continue;
-        };
-        let proved = || words(black_box(pack), black_box(0), black_box(COUNT));
-        assert_eq!(plain(), proved(), "the two sides give the same sum");
-        let (plain, proved) = times(plain, proved);
-        table.row(language, (plain / COUNT as f64, proved / COUNT as f64));
     }
 }
 

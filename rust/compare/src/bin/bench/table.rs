@@ -30,17 +30,6 @@ impl Table {
         self.ratios.push(ratio);
     }
 
-    /// A row for which the library has no entry.
-    pub fn plain_row(&self, input: &str, plain: f64) {
-        println!(
-            "  {} {:>12} {:>12} {:>7}",
-            padded(input),
-            shown(plain),
-            "plain only",
-            "-"
-        );
-    }
-
     /// How the ratios lie.
     pub fn summary(&self) {
         let above = self.ratios.iter().filter(|&&ratio| ratio > 2.0).count();

@@ -21,12 +21,6 @@ pub fn times<A, B>(mut plain: impl FnMut() -> A, mut proved: impl FnMut() -> B) 
     (median(plain_times), median(proved_times))
 }
 
-/// Nanoseconds a call of one.
-pub fn time<A>(mut call: impl FnMut() -> A) -> f64 {
-    let calls = calls_of_a_run(&mut call);
-    median((0..RUNS).map(|_| run(&mut call, calls)).collect())
-}
-
 /// The middle value; the upper one of two.
 pub fn median(mut values: Vec<f64>) -> f64 {
     values.sort_by(f64::total_cmp);
