@@ -13,41 +13,47 @@ ghost use Rattle.clash_laws.specs.Read.{joinedIn};
 ghost use Rattle.clash_laws.specs.Spots.{spotRank, Proper};
 use crate::fraction;
 use crate::limits;
+use answer::Witness;
 use clash_laws::Query;
 use clash_laws::Span;
-use clash_laws::Spot;
+use decimal::DigitValue;
+use decimal::Places;
 
 // No number: its rank is past all ranks.
-pub fn nowhere() -> Spot
+pub fn nowhere() -> Witness
     ensures { λ r. ⌜ (spotRank r ≡ ranks) × Proper r ⌝ }
 {
-    Spot {
+    Witness {
         e: limits::NO_EXPONENT,
-        v: 0,
+        v: Places(0),
         i: 0,
-        f: 0,
+        f: DigitValue(0),
     }
 }
 
 // Whether a comes before b.
-fn precedes(a: Spot, b: Spot) -> bool
+fn precedes(a: Witness, b: Witness) -> bool
     requires { ⌜ Proper a × Proper b ⌝ }
     ensures { λ r. ⌜ r ≡ ltb (spotRank a) (spotRank b) ⌝ }
 {
     if a.e != b.e {
         return a.e < b.e;
     }
-    if a.v != b.v {
-        return a.v < b.v;
+    let v = a.v;
+    let w = b.v;
+    if v.0 != w.0 {
+        return v.0 < w.0;
     }
     if a.i != b.i {
         return a.i < b.i;
     }
-    a.f < b.f
+    let f = a.f;
+    let g = b.f;
+    f.0 < g.0
 }
 
 // The earlier of two.
-pub fn earlier(a: Spot, b: Spot) -> Spot
+pub fn earlier(a: Witness, b: Witness) -> Witness
     requires { ⌜ Proper a × Proper b ⌝ }
     ensures { λ r. ⌜ (spotRank r ≡ min (spotRank a) (spotRank b)) × Proper r ⌝ }
 {
@@ -123,7 +129,7 @@ fn kind_spot<'a>(
     s: Span,
     whole: bool,
     e: u64,
-) -> Spot
+) -> Witness
     requires { ⌜ (e ≤ maxExponent) × (s .to ≤ 320) × (s .stop ≤ 320) ⌝ }
     ensures { λ r. ⌜ (spotRank r ≡ (if ltb (kindRank whole e (joinedIn (table (now (operand .entry)) (now (modulus .entry)) (now (negated .entry)) (now (ranges .entry)) (now (low .entry)) (now (high .entry))) s)) block then e * block + kindRank whole e (joinedIn (table (now (operand .entry)) (now (modulus .entry)) (now (negated .entry)) (now (ranges .entry)) (now (low .entry)) (now (high .entry))) s) else ranks)) × Proper r ⌝ }
 {
@@ -135,11 +141,11 @@ fn kind_spot<'a>(
     if limits::INTEGER_LIMIT <= i {
         return nowhere();
     }
-    Spot {
-        e: e,
-        v: q / limits::FRACTION_LIMIT,
+    Witness {
+        e: e as u8,
+        v: Places((q / limits::FRACTION_LIMIT) as u8),
         i: i,
-        f: q % limits::FRACTION_LIMIT,
+        f: DigitValue(q % limits::FRACTION_LIMIT),
     }
 }
 
@@ -152,7 +158,7 @@ pub fn clause_spot<'a>(
     low: &'a [u32; 2048],
     high: &'a [u32; 2048],
     s: Span,
-) -> Spot
+) -> Witness
     requires { ⌜ (s .to ≤ 320) × (s .stop ≤ 320) ⌝ }
     ensures { λ r. ⌜ (spotRank r ≡ clauseRank (joinedIn (table (now (operand .entry)) (now (modulus .entry)) (now (negated .entry)) (now (ranges .entry)) (now (low .entry)) (now (high .entry))) s)) × Proper r ⌝ }
 {

@@ -8,7 +8,7 @@ ghost use Rattle.clash_laws.specs.Check.{against, firstPair};
 ghost use Rattle.clash_laws.specs.Fast.{fastClash};
 ghost use Rattle.rules.specs.Stretch.{stretch, table};
 ghost use Rattle.clash_laws.specs.Read.{bareRule};
-ghost use Rattle.clash_laws.specs.Spots.{Proper, witnessOf, answered};
+ghost use Rattle.clash_laws.specs.Spots.{Proper, answered};
 use crate::Clash;
 use crate::clause;
 use crate::joined;
@@ -16,9 +16,6 @@ use crate::limits;
 use answer::Pair;
 use answer::Witness;
 use clash_laws::Checked;
-use clash_laws::Spot;
-use decimal::DigitValue;
-use decimal::Places;
 
 // The first of the rules behind the rule p, below n, that clashes with it; n where none does.
 pub fn later_clash<'a>(
@@ -50,7 +47,7 @@ pub fn later_clash<'a>(
             p,
             q,
         );
-        if spot.e <= limits::MAX_EXPONENT {
+        if spot.e < limits::NO_EXPONENT {
             return Clash { at: q, spot: spot };
         }
         q += 1;
@@ -60,23 +57,15 @@ pub fn later_clash<'a>(
 }
 
 // The answer for the rules p and q and the number found.
-pub fn clashes(p: usize, q: usize, s: Spot) -> Checked
-    requires { ⌜ (p < 6) × (q < 6) × (s .e ≤ maxExponent) × Proper s ⌝ }
-    ensures { λ r. ⌜ r ≡ Checked.Clashes (record { first = p + 1; second = q + 1 }) (witnessOf s) ⌝ }
+pub fn clashes(p: usize, q: usize, s: Witness) -> Checked
+    requires { ⌜ (p < 6) × (q < 6) ⌝ }
+    ensures { λ r. ⌜ r ≡ Checked.Clashes (record { first = p + 1; second = q + 1 }) s ⌝ }
 {
     let pair = Pair {
         first: (p + 1) as u8,
         second: (q + 1) as u8,
     };
-    let v = Places(s.v as u8);
-    let f = DigitValue(s.f);
-    let x = Witness {
-        e: s.e as u8,
-        v: v,
-        i: s.i,
-        f: f,
-    };
-    Checked::Clashes(pair, x)
+    Checked::Clashes(pair, s)
 }
 
 // The first pair among the first n rules, with its least number.

@@ -15,6 +15,7 @@ use crate::limits;
 use crate::settle;
 use clash_laws::Query;
 use clash_laws::Span;
+use decimal::Places;
 
 fn lesser(a: u64, b: u64) -> u64
     ensures { λ r. ⌜ r ≡ min a b ⌝ }
@@ -74,7 +75,17 @@ fn whole_places<'a>(
 {
     let mut v: u64 = 0;
     while v <= limits::MAX_PLACES {
-        if settle::settled_f(operand, modulus, negated, ranges, low, high, s, v, 0) {
+        if settle::settled_f(
+            operand,
+            modulus,
+            negated,
+            ranges,
+            low,
+            high,
+            s,
+            Places(v as u8),
+            Places(0),
+        ) {
             return v;
         }
         v += 1;
@@ -118,7 +129,17 @@ fn settled_places<'a>(
 {
     let mut v: u64 = k + 1;
     while v <= limits::MAX_PLACES {
-        if settle::settled_f(operand, modulus, negated, ranges, low, high, s, v, v - k) {
+        if settle::settled_f(
+            operand,
+            modulus,
+            negated,
+            ranges,
+            low,
+            high,
+            s,
+            Places(v as u8),
+            Places((v - k) as u8),
+        ) {
             return v;
         }
         v += 1;
@@ -142,7 +163,17 @@ fn room_for<'a>(
     requires { ⌜ (k < v) × (v ≤ maxPlaces) × (s .to ≤ 320) × (s .stop ≤ 320) ⌝ }
     ensures { λ r. ⌜ r ≡ both (all (settledF v (v - k)) (joinedIn (table (now (operand .entry)) (now (modulus .entry)) (now (negated .entry)) (now (ranges .entry)) (now (low .entry)) (now (high .entry))) s)) (ltb t (10 ^ (v - k))) ⌝ }
 {
-    if !settle::settled_f(operand, modulus, negated, ranges, low, high, s, v, v - k) {
+    if !settle::settled_f(
+        operand,
+        modulus,
+        negated,
+        ranges,
+        low,
+        high,
+        s,
+        Places(v as u8),
+        Places((v - k) as u8),
+    ) {
         return false;
     }
     t < power(v - k)

@@ -9,8 +9,8 @@ ghost use Rattle.rules.specs.Stretch.{startAt, table, clauseAt, clausesIn};
 ghost use Rattle.clash_laws.specs.Read.{ruleClauses};
 ghost use Rattle.clash_laws.specs.Spots.{spotRank, Proper};
 use crate::clause;
+use answer::Witness;
 use clash_laws::Span;
-use clash_laws::Spot;
 
 const MAX_RELATIONS: usize = 320;
 
@@ -69,7 +69,7 @@ fn joined_spot<'a>(
     relations: &'a [usize; 40],
     k: usize,
     l: usize,
-) -> Spot
+) -> Witness
     requires { ⌜ (k < 40) × (l < 40) ⌝ }
     ensures { λ r. ⌜ (spotRank r ≡ clauseRank (clauseAt (table (now (operand .entry)) (now (modulus .entry)) (now (negated .entry)) (now (ranges .entry)) (now (low .entry)) (now (high .entry))) (now (relations .entry)) k ++ clauseAt (table (now (operand .entry)) (now (modulus .entry)) (now (negated .entry)) (now (ranges .entry)) (now (low .entry)) (now (high .entry))) (now (relations .entry)) l)) × Proper r ⌝ }
 {
@@ -98,8 +98,8 @@ fn with_each<'a>(
     k: usize,
     from: usize,
     to: usize,
-    first: Spot,
-) -> Spot
+    first: Witness,
+) -> Witness
     requires { ⌜ (k < 40) × (to ≤ 40) × Proper first ⌝ }
     ensures { λ r. ⌜ (spotRank r ≡ min (spotRank first) (fastRank (withEach (clauseAt (table (now (operand .entry)) (now (modulus .entry)) (now (negated .entry)) (now (ranges .entry)) (now (low .entry)) (now (high .entry))) (now (relations .entry)) k) (clausesIn (table (now (operand .entry)) (now (modulus .entry)) (now (negated .entry)) (now (ranges .entry)) (now (low .entry)) (now (high .entry))) (now (relations .entry)) from to)))) × Proper r ⌝ }
 {
@@ -136,7 +136,7 @@ fn both_spot<'a>(
     to: usize,
     start: usize,
     stop: usize,
-) -> Spot
+) -> Witness
     requires { ⌜ (to ≤ 40) × (stop ≤ 40) ⌝ }
     ensures { λ r. ⌜ (spotRank r ≡ fastRank (bothOf (clausesIn (table (now (operand .entry)) (now (modulus .entry)) (now (negated .entry)) (now (ranges .entry)) (now (low .entry)) (now (high .entry))) (now (relations .entry)) from to) (clausesIn (table (now (operand .entry)) (now (modulus .entry)) (now (negated .entry)) (now (ranges .entry)) (now (low .entry)) (now (high .entry))) (now (relations .entry)) start stop))) × Proper r ⌝ }
 {
@@ -173,7 +173,7 @@ pub fn pair_spot<'a>(
     clauses: &'a [usize; 6],
     p: usize,
     q: usize,
-) -> Spot
+) -> Witness
     requires { ⌜ (p < 6) × (q < 6) ⌝ }
     ensures { λ r. ⌜ (spotRank r ≡ fastRank (bothOf (ruleClauses (table (now (operand .entry)) (now (modulus .entry)) (now (negated .entry)) (now (ranges .entry)) (now (low .entry)) (now (high .entry))) (now (relations .entry)) (now (clauses .entry)) p) (ruleClauses (table (now (operand .entry)) (now (modulus .entry)) (now (negated .entry)) (now (ranges .entry)) (now (low .entry)) (now (high .entry))) (now (relations .entry)) (now (clauses .entry)) q))) × Proper r ⌝ }
 {

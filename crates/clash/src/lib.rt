@@ -13,15 +13,15 @@ ghost use mathlib.Core.Path.{_≡_};
 ghost use Prim.Native.Nat.{min};
 ghost use Rattle.rules.specs.Held.{heldRules};
 ghost use Rattle.clash_laws.specs.Check.{checkOf};
+use answer::Witness;
 use clash_laws::Checked;
-use clash_laws::Spot;
 use rules::Pack;
 
 // The first rule behind a rule that clashes with it, and the number; `at` is past the rules where none
 // does.
 pub struct Clash {
     pub at: usize,
-    pub spot: Spot,
+    pub spot: Witness,
 }
 
 // There is room for six rules.

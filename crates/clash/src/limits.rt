@@ -3,7 +3,7 @@
 pub const MAX_EXPONENT: u64 = 14;
 
 // past the largest: no number was found
-pub const NO_EXPONENT: u64 = 15;
+pub const NO_EXPONENT: u8 = 15;
 
 pub const MAX_PLACES: u64 = 9;
 

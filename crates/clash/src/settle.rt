@@ -9,6 +9,13 @@ ghost use Rattle.clash_laws.specs.Fast.{passes, queryT, ofExponent, settledE, s
 ghost use Rattle.rules.specs.Stretch.{table, relationAt, relationsIn};
 ghost use Rattle.clash_laws.specs.Read.{cap, joinedIn};
 use clash_laws::Span;
+use decimal::Places;
+
+fn wide(x: u8) -> u64
+    ensures { λ r. ⌜ r ≡ x ⌝ }
+{
+    x as u64
+}
 
 // Whether the letter is that of the exponent: none of the others.
 fn of_exponent(o: u8) -> bool
@@ -61,24 +68,24 @@ fn settled_f_of<'a>(
     low: &'a [u32; 2048],
     high: &'a [u32; 2048],
     j: usize,
-    v: u64,
-    w: u64,
+    v: Places,
+    w: Places,
 ) -> bool
-    requires { ⌜ (v ≤ cap) × (w ≤ cap) × (j < 320) ⌝ }
-    ensures { λ r. ⌜ r ≡ settledF v w (relationAt (table (now (operand .entry)) (now (modulus .entry)) (now (negated .entry)) (now (ranges .entry)) (now (low .entry)) (now (high .entry))) j) ⌝ }
+    requires { ⌜ (v .0 ≤ cap) × (w .0 ≤ cap) × (j < 320) ⌝ }
+    ensures { λ r. ⌜ r ≡ settledF (v .0) (w .0) (relationAt (table (now (operand .entry)) (now (modulus .entry)) (now (negated .entry)) (now (ranges .entry)) (now (low .entry)) (now (high .entry))) j) ⌝ }
 {
     let o = operand[j];
     if o == 110 {
-        if w == 0 {
+        if w.0 == 0 {
             return true;
         }
         return negated[j];
     }
     if o == 118 {
-        return leaps::holds_of(operand, modulus, negated, ranges, low, high, j, v);
+        return leaps::holds_of(operand, modulus, negated, ranges, low, high, j, wide(v.0));
     }
     if o == 119 {
-        return leaps::holds_of(operand, modulus, negated, ranges, low, high, j, w);
+        return leaps::holds_of(operand, modulus, negated, ranges, low, high, j, wide(w.0));
     }
     true
 }
@@ -181,11 +188,11 @@ fn settled_f_part<'a>(
     high: &'a [u32; 2048],
     from: usize,
     to: usize,
-    v: u64,
-    w: u64,
+    v: Places,
+    w: Places,
 ) -> bool
-    requires { ⌜ (v ≤ cap) × (w ≤ cap) × (to ≤ 320) ⌝ }
-    ensures { λ r. ⌜ r ≡ all (settledF v w) (relationsIn (table (now (operand .entry)) (now (modulus .entry)) (now (negated .entry)) (now (ranges .entry)) (now (low .entry)) (now (high .entry))) from to) ⌝ }
+    requires { ⌜ (v .0 ≤ cap) × (w .0 ≤ cap) × (to ≤ 320) ⌝ }
+    ensures { λ r. ⌜ r ≡ all (settledF (v .0) (w .0)) (relationsIn (table (now (operand .entry)) (now (modulus .entry)) (now (negated .entry)) (now (ranges .entry)) (now (low .entry)) (now (high .entry))) from to) ⌝ }
 {
     let mut j = from;
     while j < to {
@@ -206,11 +213,11 @@ pub fn settled_f<'a>(
     low: &'a [u32; 2048],
     high: &'a [u32; 2048],
     s: Span,
-    v: u64,
-    w: u64,
+    v: Places,
+    w: Places,
 ) -> bool
-    requires { ⌜ (v ≤ cap) × (w ≤ cap) × (s .to ≤ 320) × (s .stop ≤ 320) ⌝ }
-    ensures { λ r. ⌜ r ≡ all (settledF v w) (joinedIn (table (now (operand .entry)) (now (modulus .entry)) (now (negated .entry)) (now (ranges .entry)) (now (low .entry)) (now (high .entry))) s) ⌝ }
+    requires { ⌜ (v .0 ≤ cap) × (w .0 ≤ cap) × (s .to ≤ 320) × (s .stop ≤ 320) ⌝ }
+    ensures { λ r. ⌜ r ≡ all (settledF (v .0) (w .0)) (joinedIn (table (now (operand .entry)) (now (modulus .entry)) (now (negated .entry)) (now (ranges .entry)) (now (low .entry)) (now (high .entry))) s) ⌝ }
 {
     if !settled_f_part(
         operand,

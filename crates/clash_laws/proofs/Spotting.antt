@@ -11,6 +11,7 @@ use lib.Dec.{ltb}
 use borrow.Author.Tests.{lt-ltb, le-ltb, le-leb, lt-leb, eq-eqb, ne-eqb, ltb-true, ltb-false}
 use Rattle.decimal.specs.Choice.{if_then_else_}
 use Rattle.decimal.proofs.Values.{power-pos}
+use Rattle.answer.specs.declared.Witness.{Witness}
 use Rattle.number.specs.Limits.{maxExponent, maxDigits, maxPlaces}
 use Rattle.rules.specs.Syntax.{Relation}
 use Rattle.least.proofs.Seeking.{split}
@@ -18,10 +19,9 @@ use Rattle.clash_laws.specs.Check.{lowest, block, ranks}
 use Rattle.clash_laws.specs.Fast.{search, exponentOf, fractions, fractionCode, integerOf, placed, kindRank, clauseRank}
 use Rattle.clash_laws.specs.Hop.{Room}
 use Rattle.clash_laws.specs.Spots.{spotRank, Proper}
-use Rattle.clash_laws.specs.declared.Spot.{Spot}
 use Rattle.clash_laws.proofs.FastIs.{lowest-le}
 
-pub nowhere-rank : spotRank (record { e = suc maxExponent; v = 0; i = 0; f = 0 }) ≡ ranks
+pub nowhere-rank : spotRank (record { e = suc maxExponent; v = record { 0 = 0 }; i = 0; f = record { 0 = 0 } }) ≡ ranks
 unfolding spotRank
 nowhere-rank = refl
 
@@ -31,10 +31,10 @@ nowhere-rank = refl
 ahead : (c a b r s : ℕ) → a < b → r < c → a * c + r < b * c + s
 ahead c a b r s h k = let g : suc a * c ≤ b * c = mul-le-mul-right c h in omega arith
 
-within : (s : Spot) → Proper s → (s .v * 10 ^ maxDigits + s .i) * 10 ^ maxPlaces + s .f < block
+within : (s : Witness) → Proper s → (s .v .0 * 10 ^ maxDigits + s .i) * 10 ^ maxPlaces + s .f .0 < block
 within s p = digits-lt (digits-lt (p .places) (p .whole)) (p .fraction)
 
-module _ (a b : Spot) (pa : Proper a) (pb : Proper b) where
+module _ (a b : Witness) (pa : Proper a) (pb : Proper b) where
   pub by-e : a .e < b .e → spotRank a < spotRank b
   unfolding spotRank
   by-e h = ahead block (a .e) (b .e) _ _ h (within a pa)
@@ -42,26 +42,26 @@ module _ (a b : Spot) (pa : Proper a) (pb : Proper b) where
   inner : (x y : ℕ) → a .e ≡ b .e → x < y → a .e * block + x < b .e * block + y
   inner x y e h = let g : a .e * block ≡ b .e * block = ap (λ (u : ℕ). u * block) e in omega arith
 
-  pub by-v : a .e ≡ b .e → a .v < b .v → spotRank a < spotRank b
+  pub by-v : a .e ≡ b .e → a .v .0 < b .v .0 → spotRank a < spotRank b
   unfolding spotRank
-  by-v e h = inner _ _ e (ahead (10 ^ maxPlaces) (a .v * 10 ^ maxDigits + a .i) (b .v * 10 ^ maxDigits + b .i) (a .f) (b .f) (ahead (10 ^ maxDigits) (a .v) (b .v) (a .i) (b .i) h (pa .whole)) (pa .fraction))
+  by-v e h = inner _ _ e (ahead (10 ^ maxPlaces) (a .v .0 * 10 ^ maxDigits + a .i) (b .v .0 * 10 ^ maxDigits + b .i) (a .f .0) (b .f .0) (ahead (10 ^ maxDigits) (a .v .0) (b .v .0) (a .i) (b .i) h (pa .whole)) (pa .fraction))
 
-  pub by-i : a .e ≡ b .e → a .v ≡ b .v → a .i < b .i → spotRank a < spotRank b
+  pub by-i : a .e ≡ b .e → a .v .0 ≡ b .v .0 → a .i < b .i → spotRank a < spotRank b
   unfolding spotRank
   by-i e v h =
-      inner _ _ e (ahead (10 ^ maxPlaces) (a .v * 10 ^ maxDigits + a .i) (b .v * 10 ^ maxDigits + b .i) (a .f) (b .f)
-      (let g : a .v * 10 ^ maxDigits ≡ b .v * 10 ^ maxDigits = ap (λ (u : ℕ). u * 10 ^ maxDigits) v in omega arith) (pa .fraction))
+      inner _ _ e (ahead (10 ^ maxPlaces) (a .v .0 * 10 ^ maxDigits + a .i) (b .v .0 * 10 ^ maxDigits + b .i) (a .f .0) (b .f .0)
+      (let g : a .v .0 * 10 ^ maxDigits ≡ b .v .0 * 10 ^ maxDigits = ap (λ (u : ℕ). u * 10 ^ maxDigits) v in omega arith) (pa .fraction))
 
-  pub by-f : a .e ≡ b .e → a .v ≡ b .v → a .i ≡ b .i → a .f < b .f → spotRank a < spotRank b
+  pub by-f : a .e ≡ b .e → a .v .0 ≡ b .v .0 → a .i ≡ b .i → a .f .0 < b .f .0 → spotRank a < spotRank b
   unfolding spotRank
   by-f e v i h =
-      inner _ _ e (let g : (a .v * 10 ^ maxDigits + a .i) * 10 ^ maxPlaces ≡ (b .v * 10 ^ maxDigits + b .i) * 10 ^ maxPlaces = ap₂ (λ (x y : ℕ). (x * 10 ^ maxDigits + y) * 10 ^ maxPlaces) v i in omega arith)
+      inner _ _ e (let g : (a .v .0 * 10 ^ maxDigits + a .i) * 10 ^ maxPlaces ≡ (b .v .0 * 10 ^ maxDigits + b .i) * 10 ^ maxPlaces = ap₂ (λ (x y : ℕ). (x * 10 ^ maxDigits + y) * 10 ^ maxPlaces) v i in omega arith)
 
-  pub all-same : a .e ≡ b .e → a .v ≡ b .v → a .i ≡ b .i → a .f ≡ b .f → spotRank a ≡ spotRank b
+  pub all-same : a .e ≡ b .e → a .v .0 ≡ b .v .0 → a .i ≡ b .i → a .f .0 ≡ b .f .0 → spotRank a ≡ spotRank b
   unfolding spotRank
   all-same e v i f = ap₂ (λ (x y : ℕ). x * block + y) e (ap₂ (λ (x y : ℕ). x * 10 ^ maxPlaces + y) (ap₂ (λ (x y : ℕ). x * 10 ^ maxDigits + y) v i) f)
 
-module _ (a b : Spot) (pa : Proper a) (pb : Proper b) where
+module _ (a b : Witness) (pa : Proper a) (pb : Proper b) where
   -- a test of two digits that differ is that of the ranks
   decide : (x y : ℕ) → (x < y → spotRank a < spotRank b) → (y < x → spotRank b < spotRank a) → (x ≡ y → ⊥) → ltb x y ≡ ltb (spotRank a) (spotRank b)
   decide x y f g n =
@@ -72,17 +72,17 @@ module _ (a b : Spot) (pa : Proper a) (pb : Proper b) where
   pub order-e : (a .e ≡ b .e → ⊥) → ltb (a .e) (b .e) ≡ ltb (spotRank a) (spotRank b)
   order-e n = decide (a .e) (b .e) (by-e a b pa pb) (by-e b a pb pa) n
 
-  pub order-v : a .e ≡ b .e → (a .v ≡ b .v → ⊥) → ltb (a .v) (b .v) ≡ ltb (spotRank a) (spotRank b)
-  order-v e n = decide (a .v) (b .v) (by-v a b pa pb e) (by-v b a pb pa (sym e)) n
+  pub order-v : a .e ≡ b .e → (a .v .0 ≡ b .v .0 → ⊥) → ltb (a .v .0) (b .v .0) ≡ ltb (spotRank a) (spotRank b)
+  order-v e n = decide (a .v .0) (b .v .0) (by-v a b pa pb e) (by-v b a pb pa (sym e)) n
 
-  pub order-i : a .e ≡ b .e → a .v ≡ b .v → (a .i ≡ b .i → ⊥) → ltb (a .i) (b .i) ≡ ltb (spotRank a) (spotRank b)
+  pub order-i : a .e ≡ b .e → a .v .0 ≡ b .v .0 → (a .i ≡ b .i → ⊥) → ltb (a .i) (b .i) ≡ ltb (spotRank a) (spotRank b)
   order-i e v n = decide (a .i) (b .i) (by-i a b pa pb e v) (by-i b a pb pa (sym e) (sym v)) n
 
-  pub order-f : a .e ≡ b .e → a .v ≡ b .v → a .i ≡ b .i → ltb (a .f) (b .f) ≡ ltb (spotRank a) (spotRank b)
+  pub order-f : a .e ≡ b .e → a .v .0 ≡ b .v .0 → a .i ≡ b .i → ltb (a .f .0) (b .f .0) ≡ ltb (spotRank a) (spotRank b)
   order-f e v i =
-      ⊎-elim (λ h. lt-ltb (a .f) (b .f) h ∙ sym (lt-ltb (spotRank a) (spotRank b) (by-f a b pa pb e v i h)))
-      (λ h. le-ltb (a .f) (b .f) h ∙ sym (le-ltb (spotRank a) (spotRank b) (⊎-elim (λ z. let m = by-f b a pb pa (sym e) (sym v) (sym i) z in omega arith) (λ z. let m = all-same a b pa pb e v i (omega arith) in omega arith) (split (b .f) (a .f)))))
-      (split (a .f) (b .f))
+      ⊎-elim (λ h. lt-ltb (a .f .0) (b .f .0) h ∙ sym (lt-ltb (spotRank a) (spotRank b) (by-f a b pa pb e v i h)))
+      (λ h. le-ltb (a .f .0) (b .f .0) h ∙ sym (le-ltb (spotRank a) (spotRank b) (⊎-elim (λ z. let m = by-f b a pb pa (sym e) (sym v) (sym i) z in omega arith) (λ z. let m = all-same a b pa pb e v i (omega arith) in omega arith) (split (b .f .0) (a .f .0)))))
+      (split (a .f .0) (b .f .0))
 
 pub first-least : (x y : ℕ) (b : Bool) → b ≡ ltb x y → b ≡ true → x ≡ min x y
 first-least x y b e f = let h = ltb-true x y (sym e ∙ f) in omega arith
@@ -128,7 +128,7 @@ module _ (w : Bool) (e : ℕ) (c : List Relation) where
   kind-no-integer q i r g h f l k = says-none (some-fraction q g h ∙ ap (λ (b : Bool). if b then placed (fractionCode w c) (integerOf w e c) else block) (le-ltb (integerOf w e c) (10 ^ maxDigits) (omega arith))) r k
 
   pub kind-found : (q i : ℕ) → q ≡ fractionCode w c → q < fractions → i ≡ integerOf w e c → i < 10 ^ maxDigits
-      → KindSays (spotRank (record { e = e; v = q / 10 ^ maxPlaces; i = i; f = q % 10 ^ maxPlaces }))
+      → KindSays (spotRank (record { e = e; v = record { 0 = q / 10 ^ maxPlaces }; i = i; f = record { 0 = q % 10 ^ maxPlaces } }))
   unfolding spotRank
   kind-found q i g h f l =
       let k : kindRank w e c ≡ placed q i = some-fraction q g h ∙ ap (λ (b : Bool). if b then placed (fractionCode w c) (integerOf w e c) else block) (lt-ltb (integerOf w e c) (10 ^ maxDigits) (omega arith)) ∙ sym (ap₂ placed g f) in
@@ -136,7 +136,7 @@ module _ (w : Bool) (e : ℕ) (c : List Relation) where
       let m : placed q i < block = digits-lt (digits-lt t l) (mod-lt q (power-pos maxPlaces)) in
       rw (k, lt-ltb (placed q i) block m)
 
-pub kind-proper : (e q i : ℕ) → e ≤ maxExponent → q < fractions → i < 10 ^ maxDigits → Proper (record { e = e; v = q / 10 ^ maxPlaces; i = i; f = q % 10 ^ maxPlaces })
+pub kind-proper : (e q i : ℕ) → e ≤ maxExponent → q < fractions → i < 10 ^ maxDigits → Proper (record { e = e; v = record { 0 = q / 10 ^ maxPlaces }; i = i; f = record { 0 = q % 10 ^ maxPlaces } })
 unfolding spotRank
 kind-proper e q i h g l =
     let t : q / 10 ^ maxPlaces < suc maxPlaces = div-lt-iff-lt-mul (power-pos maxPlaces) .1 g in
@@ -149,7 +149,7 @@ kind-proper e q i h g l =
       ranked = le-of-lt (ahead block e (suc maxExponent) (placed q i) 0 (let k : e < suc maxExponent = omega arith in k) (digits-lt (digits-lt t l) f));
     }
 
-pub nowhere-proper : Proper (record { e = suc maxExponent; v = 0; i = 0; f = 0 })
+pub nowhere-proper : Proper (record { e = suc maxExponent; v = record { 0 = 0 }; i = 0; f = record { 0 = 0 } })
 unfolding spotRank
 nowhere-proper = record { exponent = omega arith; places = omega arith; whole = omega arith; fraction = omega arith; ranked = omega arith }
 

@@ -29,11 +29,3 @@ pub struct Span {
     pub start: usize,
     pub stop: usize,
 }
-
-// The operands of a number that the search found; e is past the largest where it found none.
-pub struct Spot {
-    pub e: u64,
-    pub v: u64,
-    pub i: u64,
-    pub f: u64,
-}

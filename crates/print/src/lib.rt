@@ -70,9 +70,8 @@ fn print_number(house: &[u8], pattern: &[u8], p: Pattern, n: Number, out: &mut [
     }
     let v = n.v;
     let f = n.f;
-    let places = v.0 as usize;
     let mut digits = [48u8; 41];
-    rounding::round_into(&mut digits, p.step, p.factor, p.most, n.i, places, f.0);
+    rounding::round_into(&mut digits, p.step, p.factor, p.most, n.i, v, f);
     print_digits(house, pattern, p, n.negative, &digits, out)
 }
 

@@ -10,6 +10,8 @@ ghost use lib.ListN.{length};
 ghost use Rattle.decimal.specs.Digits.{AllDigits, value, figures};
 ghost use Rattle.rounding.specs.Nearest.{up, stepsOf, unitsOf};
 ghost use Rattle.rounding.specs.Limits.{width, maxInteger, maxPlaces, maxFraction, maxFactor, maxStep, maxWord, within, inWord, rounded};
+use decimal::DigitValue;
+use decimal::Places;
 
 const WIDTH: usize = 41;
 
@@ -280,18 +282,19 @@ pub fn round_into(
     factor: u64,
     most: usize,
     i: u64,
-    v: usize,
-    f: u64,
+    v: Places,
+    f: DigitValue,
 ) -> bool
-    ensures { λ r. ⌜ r ≡ within step factor most i v f ⌝ }
-    ensures { λ _. ⌜ now (d .exit) ≡ rounded step factor most i v f (now (d .entry)) ⌝ }
+    ensures { λ r. ⌜ r ≡ within step factor most i (v .0) (f .0) ⌝ }
+    ensures { λ _. ⌜ now (d .exit) ≡ rounded step factor most i (v .0) (f .0) (now (d .entry)) ⌝ }
 {
-    let good = is_within(step, factor, most, i, v, f);
+    let places = v.0 as usize;
+    let good = is_within(step, factor, most, i, places, f.0);
     if d.len() < WIDTH {
         return good;
     }
     if good {
-        round_within(d, step, factor, most, i, v, f);
+        round_within(d, step, factor, most, i, places, f.0);
         return true;
     }
     false

@@ -12,9 +12,6 @@ use Rattle.print.proofs.print_number.Tie as tie
 returns : tie.Need-returns
 returns c = (rw (lt-ltb _ _ (c .if1 .taken)), rw (lt-ltb _ _ (c .if1 .taken)))
 
-cast-places : tie.Need-cast-places
-cast-places c = search needs
-
 slice-aggregate-round-into : tie.Need-slice-aggregate-round-into
 slice-aggregate-round-into c = search needs
 
@@ -47,7 +44,6 @@ print-number-spec =
     tie.close
     (tie.spec
     returns
-    cast-places
     slice-aggregate-round-into
     round-into-requires
     slice-aggregate-print-digits

@@ -5,6 +5,9 @@ use borrow.Author.Needs.{needs}
 use Rattle.rounding.proofs.round_into.Statement.{statement}
 use Rattle.rounding.proofs.round_into.Tie as tie
 
+cast-places : tie.Need-cast-places
+cast-places c = search needs
+
 is-within-requires : tie.Need-is-within-requires
 is-within-requires c κs = search needs
 
@@ -28,4 +31,4 @@ returns-3 c =
     (sym e, rw (le-ltb _ _ (c .before .if1 .left), e))
 
 pub round-into-spec : {M : Type 1} → statement M
-round-into-spec = tie.close (tie.spec is-within-requires returns round-within-requires same-length returns-2 returns-3)
+round-into-spec = tie.close (tie.spec cast-places is-within-requires returns round-within-requires same-length returns-2 returns-3)

@@ -30,6 +30,12 @@ returns-2 c =
     let T = table (a .operand .now) (a .modulus .now) (a .negated .now) (a .ranges .now) (a .low .now) (a .high .now) in
     (kind-no-integer (a .whole) (a .e) (joinedIn T (a .s)) (c .before .before .before .before .fraction-code .result) (c .before .before .integer-of .result) _ (c .before .before .before .before .fraction-code .ensures) (search needs) (c .before .before .integer-of .ensures) (search needs) (c .nowhere2 .ensures .0), c .nowhere2 .ensures .1)
 
+cast-t13 : tie.Need-cast-t13
+cast-t13 c = search needs
+
+cast-t15 : tie.Need-cast-t15
+cast-t15 c = search needs
+
 returns-3 : tie.Need-returns-3
 returns-3 c =
     let a = c .before .before .before .before .args in
@@ -46,4 +52,6 @@ kind-spot-spec =
     integer-of-requires
     nowhere-requires-2
     returns-2
+    cast-t13
+    cast-t15
     returns-3)

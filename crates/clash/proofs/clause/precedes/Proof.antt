@@ -11,17 +11,17 @@ returns c =
 
 returns-2 : tie.Need-returns-2
 returns-2 c =
-    let s = c .before .before .before .before .before .before .before .before in
+    let s = c .before .before .before .before .before .before .before .before .before .before in
     order-v (s .args .a) (s .args .b) (s .pre .0) (s .pre .1) (search needs) (search needs)
 
 returns-3 : tie.Need-returns-3
 returns-3 c =
-    let s = c .before .before .before .before .before .before .before .before .before .before .before in
+    let s = c .before .before .before .before .before .before .before .before .before .before .before .before .before in
     order-i (s .args .a) (s .args .b) (s .pre .0) (s .pre .1) (search needs) (search needs) (search needs)
 
 returns-4 : tie.Need-returns-4
 returns-4 c =
-    let s = c .before .before .before .before .before .before .before .before .before .before .before in
+    let s = c .before .before .before .before .before .before .before .before .before .before .before .before .before .before .before in
     order-f (s .args .a) (s .args .b) (s .pre .0) (s .pre .1) (search needs) (search needs) (search needs)
 
 pub precedes-spec : {M : Type 1} → statement M

@@ -22,8 +22,7 @@ later-clash-requires c κs = (search needs, c .before .before .pre)
 
 clashes-requires : tie.Need-clashes-requires Inv-loop μ-loop
 clashes-requires c κs =
-    let r = c .before .before .later-clash in
-    (omega (arith, c .before .before .before .before .before .pre), omega (arith, c .before .before .before .before .before .pre), r .ensures .1 (search needs), r .ensures .2)
+    (omega (arith, c .before .before .before .before .before .pre), omega (arith, c .before .before .before .before .before .pre))
 
 returns : tie.Need-returns Inv-loop μ-loop
 returns c =

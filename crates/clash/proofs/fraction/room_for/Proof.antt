@@ -8,8 +8,14 @@ use borrow.Author.Needs.{needs}
 use Rattle.clash.proofs.fraction.room_for.Statement.{statement}
 use Rattle.clash.proofs.fraction.room_for.Tie as tie
 
-sub-settled-f : tie.Need-sub-settled-f
-sub-settled-f c = search needs
+cast-t12 : tie.Need-cast-t12
+cast-t12 c = search needs
+
+sub-t14 : tie.Need-sub-t14
+sub-t14 c = search needs
+
+cast-t15 : tie.Need-cast-t15
+cast-t15 c = search needs
 
 settled-f-requires : tie.Need-settled-f-requires
 settled-f-requires c κs = search needs
@@ -29,4 +35,4 @@ returns-2 c = both-yes _ _ (c .before .before .settled-f .result) (c .before .be
 pub room-for-spec : {M : Type 1} → statement M
 room-for-spec =
     tie.close
-    (tie.spec sub-settled-f settled-f-requires returns sub-power power-requires returns-2)
+    (tie.spec cast-t12 sub-t14 cast-t15 settled-f-requires returns sub-power power-requires returns-2)

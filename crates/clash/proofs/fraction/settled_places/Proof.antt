@@ -27,8 +27,14 @@ loop-holds c =
     let T = table (a .operand .now) (a .modulus .now) (a .negated .now) (a .ranges .now) (a .low .now) (a .high .now) in
     (before-start (λ (u : ℕ). all (settledF u (u - a .k)) (joinedIn T (a .s))) (maxPlaces - a .k) (suc (a .k)) (a .k + 1) (add-one (a .k)), omega arith)
 
-sub-settled-f : tie.Need-sub-settled-f Inv-loop μ-loop
-sub-settled-f c = search needs
+cast-t12 : tie.Need-cast-t12 Inv-loop μ-loop
+cast-t12 c = search needs
+
+sub-t14 : tie.Need-sub-t14 Inv-loop μ-loop
+sub-t14 c = search needs
+
+cast-t15 : tie.Need-cast-t15 Inv-loop μ-loop
+cast-t15 c = search needs
 
 settled-f-requires : tie.Need-settled-f-requires Inv-loop μ-loop
 settled-f-requires c κs = search needs
@@ -68,7 +74,9 @@ settled-places-spec =
     μ-loop
     add-v
     loop-holds
-    sub-settled-f
+    cast-t12
+    sub-t14
+    cast-t15
     settled-f-requires
     returns
     add-v-2

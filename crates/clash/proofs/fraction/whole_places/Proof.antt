@@ -24,6 +24,9 @@ loop-holds c =
     let T = table (a .operand .now) (a .modulus .now) (a .negated .now) (a .ranges .now) (a .low .now) (a .high .now) in
     (before-start (λ (u : ℕ). all (settledF u 0) (joinedIn T (a .s))) (suc maxPlaces) 0 0 refl, omega arith)
 
+cast-t11 : tie.Need-cast-t11 Inv-loop μ-loop
+cast-t11 c = search needs
+
 settled-f-requires : tie.Need-settled-f-requires Inv-loop μ-loop
 settled-f-requires c κs = search needs
 
@@ -61,6 +64,7 @@ whole-places-spec =
     Inv-loop
     μ-loop
     loop-holds
+    cast-t11
     settled-f-requires
     returns
     add-v

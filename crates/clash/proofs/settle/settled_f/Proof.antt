@@ -14,7 +14,7 @@ returns : tie.Need-returns
 returns c =
     let a = c .before .before .args in
     let T = table (a .operand .now) (a .modulus .now) (a .negated .now) (a .ranges .now) (a .low .now) (a .high .now) in
-    join-no (settledF (a .v) (a .w)) (relationsIn T (a .s .from) (a .s .to)) (relationsIn T (a .s .start) (a .s .stop)) (c .before .settled-f-part .result) (c .before .settled-f-part .ensures) (not-true _ (c .if1 .taken))
+    join-no (settledF (a .v .0) (a .w .0)) (relationsIn T (a .s .from) (a .s .to)) (relationsIn T (a .s .start) (a .s .stop)) (c .before .settled-f-part .result) (c .before .settled-f-part .ensures) (not-true _ (c .if1 .taken))
 
 settled-f-part-requires-2 : tie.Need-settled-f-part-requires-2
 settled-f-part-requires-2 c κs = search needs
@@ -23,7 +23,7 @@ returns-2 : tie.Need-returns-2
 returns-2 c =
     let a = c .before .before .before .args in
     let T = table (a .operand .now) (a .modulus .now) (a .negated .now) (a .ranges .now) (a .low .now) (a .high .now) in
-    join-yes (settledF (a .v) (a .w)) (relationsIn T (a .s .from) (a .s .to)) (relationsIn T (a .s .start) (a .s .stop)) (c .before .before .settled-f-part .result) (c .settled-f-part2 .result) (c .before .before .settled-f-part .ensures) (not-false _ (c .before .if1 .left)) (c .settled-f-part2 .ensures)
+    join-yes (settledF (a .v .0) (a .w .0)) (relationsIn T (a .s .from) (a .s .to)) (relationsIn T (a .s .start) (a .s .stop)) (c .before .before .settled-f-part .result) (c .settled-f-part2 .result) (c .before .before .settled-f-part .ensures) (not-false _ (c .before .if1 .left)) (c .settled-f-part2 .ensures)
 
 pub settled-f-spec : {M : Type 1} → statement M
 settled-f-spec =

@@ -10,7 +10,7 @@ use Rattle.clash.proofs.settle.settled_f_part.Statement.{statement}
 use Rattle.clash.proofs.settle.settled_f_part.Tie as tie
 
 abbrev Inv-loop : tie.InvT-loop
-Inv-loop operand modulus negated ranges low high from to v w j₀ j = Every (settledF v w) (table operand modulus negated ranges low high) to from ≡ Every (settledF v w) (table operand modulus negated ranges low high) to j
+Inv-loop operand modulus negated ranges low high from to v w j₀ j = Every (settledF (v .0) (w .0)) (table operand modulus negated ranges low high) to from ≡ Every (settledF (v .0) (w .0)) (table operand modulus negated ranges low high) to j
 
 abbrev μ-loop : tie.MeasureT-loop
 μ-loop operand modulus negated ranges low high from to v w j₀ j = to - j
@@ -26,7 +26,7 @@ returns c =
     let l = c .before .before .before in
     let a = l .before .args in
     let T = table (a .operand .now) (a .modulus .now) (a .negated .now) (a .ranges .now) (a .low .now) (a .high .now) in
-    sym (l .loop .inv ∙ every-stop (settledF (a .v) (a .w)) T (a .to) (c .before .settled-f-of .result) (l .loop .j) (search needs) (c .before .settled-f-of .ensures) (not-true _ (c .if1 .taken)))
+    sym (l .loop .inv ∙ every-stop (settledF (a .v .0) (a .w .0)) T (a .to) (c .before .settled-f-of .result) (l .loop .j) (search needs) (c .before .settled-f-of .ensures) (not-true _ (c .if1 .taken)))
 
 add-j : tie.Need-add-j Inv-loop μ-loop
 add-j c = search needs
@@ -39,14 +39,14 @@ loop-again c =
     let l = c .before .before .before in
     let a = l .before .args in
     let T = table (a .operand .now) (a .modulus .now) (a .negated .now) (a .ranges .now) (a .low .now) (a .high .now) in
-    l .loop .inv ∙ every-more (settledF (a .v) (a .w)) T (a .to) (c .before .settled-f-of .result) (l .loop .j) (search needs) (c .before .settled-f-of .ensures) (not-false _ (c .if1 .left))
+    l .loop .inv ∙ every-more (settledF (a .v .0) (a .w .0)) T (a .to) (c .before .settled-f-of .result) (l .loop .j) (search needs) (c .before .settled-f-of .ensures) (not-false _ (c .if1 .left))
 
 returns-2 : tie.Need-returns-2 Inv-loop μ-loop
 returns-2 c =
     let l = c .before in
     let a = l .before .args in
     let T = table (a .operand .now) (a .modulus .now) (a .negated .now) (a .ranges .now) (a .low .now) (a .high .now) in
-    sym (l .loop .inv ∙ every-end (settledF (a .v) (a .w)) T (a .to) (l .loop .j) (search needs))
+    sym (l .loop .inv ∙ every-end (settledF (a .v .0) (a .w .0)) T (a .to) (l .loop .j) (search needs))
 
 pub settled-f-part-spec : {M : Type 1} → statement M
 settled-f-part-spec =
