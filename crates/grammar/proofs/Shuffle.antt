@@ -11,11 +11,11 @@ use Rattle.decimal.specs.Split.{onFirst}
 use Rattle.decimal.specs.Choice.{if_then_else_, both}
 use Rattle.token.specs.Spelling.{same, among}
 use Rattle.grammar.specs.Grammar.{Text, all, RuleTree}
-use Rattle.grammar.specs.Grammar.RuleTree.{Bare}
 use Rattle.grammar.specs.Steps.{steps, Read, ends}
 use Rattle.grammar.specs.Steps.State.{WantsName}
 use Rattle.grammar.specs.Steps.Read.{Whole, Cut}
 use Rattle.grammar.specs.Limits.{maxBytes}
+use Rattle.grammar.specs.Segment.{words, orAny, readOf, treeOf, segmentRule}
 use Rattle.token.specs.Token.{tokens}
 use Rattle.grammar.specs.Reader.{segments, Stop, stop, Fault, faultIn, again, keywordIn, Parsed, andThen, rulesFrom, faultFrom, judge, readPack}
 use Rattle.grammar.specs.Reader.Stop.{Fine, Stuck}
@@ -27,22 +27,11 @@ use Rattle.answer.specs.declared.Refusal.the-variants.{PackTooLong}
 use Rattle.rules.specs.Syntax.{Rule}
 use Rattle.token.proofs.Spellings.{both-0, both-1, both-in}
 use Rattle.grammar.proofs.Laws.{no-way}
-use Rattle.grammar.proofs.Places.{words, words-at, fine-whole, whole-fine, clean, or-0, or-1, none-clean, clean-none, firstOf, keyword-first, fresh, again-fresh, fresh-again}
-
--- the rule of a segment by itself, if it has one (else any)
-abbrev orAny : Read → RuleTree
-orAny (Whole r) = r
-orAny Cut = Bare []
+use Rattle.grammar.proofs.Places.{words-at, fine-whole, whole-fine, clean, or-0, or-1, none-clean, clean-none, firstOf, keyword-first, fresh, again-fresh, fresh-again}
 
 abbrev isWhole : Read → Bool
 isWhole (Whole r) = true
 isWhole Cut = false
-
-abbrev pub readOf : Text → Read
-readOf x = ends (steps WantsName (words x))
-
-abbrev pub treeOf : Text → RuleTree
-treeOf x = orAny (readOf x)
 
 -- a segment that is a rule without a fault
 abbrev pub good : Text → Bool
@@ -230,10 +219,6 @@ is-fine true p f rs e = absurd (let z : _≡_ {A = ℕ} 0 1 = cc in omega arith)
 is-fine false (Bad a) f rs e = absurd (let z : _≡_ {A = ℕ} 0 1 = cc in omega arith)
 is-fine false (Trees qs) None rs e = (refl, qs, refl, refl, cc)
 is-fine false (Trees qs) (At n a) rs e = absurd (let z : _≡_ {A = ℕ} 0 1 = cc in omega arith)
-
--- the rule of a segment, by its bytes alone
-abbrev pub segmentRule : Text → Rule
-segmentRule x = ruleOf (treeOf x)
 
 map-map : (xs : List Text) → map ruleOf (map treeOf xs) ≡ map segmentRule xs
 map-map [] = refl

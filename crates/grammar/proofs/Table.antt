@@ -20,19 +20,21 @@ use Rattle.token.specs.Spelling.{among}
 use Rattle.token.proofs.Spellings.{both-in}
 use Rattle.token.specs.Token.{Token, tokens}
 use Rattle.grammar.specs.Limits.{maxBytes, maxValue, maxClauses, maxRelations, maxRanges, isModulus}
-use Rattle.grammar.specs.Grammar.{Text, RuleTree, PackTree, semi, each, ofRule, ofPack, rightPack}
+use Rattle.grammar.specs.Grammar.{Text, RuleTree, PackTree, rulesOf, semi, each, ofRule, ofPack, rightPack}
 use Rattle.grammar.specs.Grammar.PackTree.{Parted}
 use Rattle.grammar.specs.RuleOf.{ruleOf}
 use Rattle.grammar.specs.Steps.{State, Read, ends}
 use Rattle.grammar.specs.Steps.State.{WantsName, WantsColon, WantsNothing, WantsOperand, HasOperand, WantsModulus, HasModulus, WantsValue, HasValue, WantsUpper, HasUpper, Dead}
 use Rattle.grammar.specs.Steps.Read.{Whole, Cut}
-use Rattle.grammar.specs.Reader.{isDead, keywords, Parsed, trouble, Fault, orElse, faultAt, rowOf, PackAnswer, refusedAt, judge, readPack}
+use Rattle.grammar.specs.Limits.{keywords}
+use Rattle.grammar.specs.Reader.{isDead, Parsed, trouble, Fault, orElse, faultAt, rowOf, PackAnswer, refusedAt, judge, readPack}
 use Rattle.grammar.specs.Reader.Parsed.{Trees, Bad}
 use Rattle.grammar.specs.Reader.Fault.{None, At}
 use Rattle.grammar.specs.Reader.PackAnswer.{Rules, Refused}
-use Rattle.grammar.proofs.Places.{texts, or-0, or-1}
-use Rattle.grammar.proofs.Viable.{Far, onward, outset, far, halt, alive-before, viable, never, not-ended, whole-alive, Begins, WellFormed, Culprit, Unfinished, There, AtEnd, halts, been, behind}
-use Rattle.grammar.proofs.Exact.{ended, rulesOf, complete-pack}
+use Rattle.grammar.specs.WellFormed.{texts, WellFormed, Begins, Culprit, Unfinished}
+use Rattle.grammar.proofs.Places.{or-0, or-1}
+use Rattle.grammar.proofs.Viable.{Far, onward, outset, far, halt, alive-before, viable, never, not-ended, whole-alive, There, AtEnd, halts, been, behind}
+use Rattle.grammar.proofs.Exact.{ended, complete-pack}
 use Rattle.grammar.proofs.Sound.{told-rule}
 use Rattle.grammar.proofs.Whole.{faultOn, faults, isName, names, tokens-whole, halt-whole, read-whole}
 

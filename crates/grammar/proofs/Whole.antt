@@ -17,10 +17,11 @@ use Rattle.token.specs.Token.{whites, whiteLen, isWhite, isLetter, letters, dot
 use Rattle.token.proofs.Spellings.{both-0, both-1}
 use Rattle.token.proofs.Pieces.{piece, pieced, tokens-turn}
 use Rattle.grammar.specs.Limits.{maxBytes}
-use Rattle.grammar.specs.Grammar.{Text, all, semi, colon, comma, percent, equal, and, or, other, isWord, isNumber, isOperand, RangeTree, HeadTree, RuleTree, ofRule}
+use Rattle.grammar.specs.Grammar.{Text, all, semi, colon, comma, percent, equal, and, or, other, isWord, isNumber, isOperand, RangeTree, HeadTree, RuleTree, nameOf, ofRule}
 use Rattle.grammar.specs.Grammar.RangeTree.{One, Span}
 use Rattle.grammar.specs.Grammar.HeadTree.{Plain, Modulo}
 use Rattle.grammar.specs.Grammar.RuleTree.{Bare, Named}
+use Rattle.grammar.specs.WellFormed.{texts}
 use Rattle.grammar.specs.Steps.{Front, State, goOn, signed, step, steps, Read, ends}
 use Rattle.grammar.specs.Steps.State.{WantsName, WantsColon, WantsNothing, WantsOperand, HasOperand, WantsModulus, HasModulus, WantsValue, HasValue, WantsUpper, HasUpper, Dead}
 use Rattle.grammar.specs.Steps.Read.{Whole}
@@ -30,7 +31,7 @@ use Rattle.grammar.specs.Reader.Fault.{None, At}
 use Rattle.grammar.specs.Reader.PackAnswer.{Refused}
 use Rattle.answer.specs.declared.Refusal.the-variants.{PackTooLong}
 use Rattle.grammar.proofs.Sound.{sound}
-use Rattle.grammar.proofs.Places.{texts, fine-whole}
+use Rattle.grammar.proofs.Places.{fine-whole}
 use Rattle.grammar.proofs.Shuffle.{then-fine}
 use Rattle.grammar.proofs.Viable.{plain, plain-segments, some-segments, firstOf, othersOf, packTokens, packEnd, tokensOf, end-is, Far, closed, onward, outset, halt, behind, same-halt, noSemi, no-semi}
 
@@ -139,10 +140,6 @@ pub tokens-whole : (s : Text) → tokens 0 s ≡ tokensOf s
 tokens-whole s = ap (tokens 0) (sym (joined-segments s)) ∙ tokens-joined 0 (firstOf (segments s)) (othersOf (segments s))
 
 -- ---- faults, token by token
-
-abbrev pub nameOf : RuleTree → Text
-nameOf (Bare k) = k
-nameOf (Named k cs c) = k
 
 abbrev pub names : List RuleTree → List Text
 names [] = []
