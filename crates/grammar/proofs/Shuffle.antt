@@ -10,7 +10,7 @@ use borrow.Author.Tests.{eqb-true, eqb-false, eq-eqb, ne-eqb, ltb-false, le-ltb}
 use Rattle.decimal.specs.Split.{onFirst}
 use Rattle.decimal.specs.Choice.{if_then_else_, both}
 use Rattle.token.specs.Spelling.{same, among}
-use Rattle.grammar.specs.Grammar.{Text, all, RuleTree}
+use Rattle.grammar.specs.Grammar.{Text, all, RuleTree, ofRule, rightRule}
 use Rattle.grammar.specs.Steps.{steps, Read, ends}
 use Rattle.grammar.specs.Steps.State.{WantsName}
 use Rattle.grammar.specs.Steps.Read.{Whole, Cut}
@@ -27,6 +27,7 @@ use Rattle.answer.specs.declared.Refusal.the-variants.{PackTooLong}
 use Rattle.rules.specs.Syntax.{Rule}
 use Rattle.token.proofs.Spellings.{both-0, both-1, both-in}
 use Rattle.grammar.proofs.Laws.{no-way}
+use Rattle.grammar.proofs.Complete.{complete}
 use Rattle.grammar.proofs.Places.{words-at, fine-whole, whole-fine, clean, or-0, or-1, none-clean, clean-none, firstOf, keyword-first, fresh, again-fresh, fresh-again}
 
 abbrev isWhole : Read → Bool
@@ -125,7 +126,7 @@ apart-same u v (x ∷ xs) h =
     let k = firstOf (words x) in
     rw (fresh-same u v h (words x), apart-same (k ∷ u) (k ∷ v) xs (λ t. ap (λ (b : Bool). if same t k then true else b) (h t)))
 
-same-sym : (s t : Text) → same s t ≡ same t s
+pub same-sym : (s t : Text) → same s t ≡ same t s
 same-sym [] [] = refl
 same-sym [] (y ∷ t) = refl
 same-sym (x ∷ s) [] = refl
@@ -219,6 +220,10 @@ is-fine true p f rs e = absurd (let z : _≡_ {A = ℕ} 0 1 = cc in omega arith)
 is-fine false (Bad a) f rs e = absurd (let z : _≡_ {A = ℕ} 0 1 = cc in omega arith)
 is-fine false (Trees qs) None rs e = (refl, qs, refl, refl, cc)
 is-fine false (Trees qs) (At n a) rs e = absurd (let z : _≡_ {A = ℕ} 0 1 = cc in omega arith)
+
+-- of a segment whose tokens are those of a right rule, it is that rule's
+pub segment-rule : (x : Text) (r : RuleTree) → rightRule r ≡ true → words x ≡ ofRule r → segmentRule x ≡ ruleOf r
+segment-rule x r g e = ap (λ (l : List Text). ruleOf (orAny (ends (steps WantsName l)))) e ∙ ap (λ (q : Read). ruleOf (orAny q)) (complete r g)
 
 map-map : (xs : List Text) → map ruleOf (map treeOf xs) ≡ map segmentRule xs
 map-map [] = refl

@@ -1,6 +1,6 @@
 -- Rows 22 to 26 of document 01's table, over a pack's tree: the rows that each of its tokens falls under, and which of them is given.
 use mathlib.Core.Path.{_≡_}
-use mathlib.Core.Bool.{Bool, true, false, not}
+use mathlib.Core.Bool.{Bool, true, not}
 use mathlib.Core.List.{List, [], _∷_, _++_, map, List·Memᴰ}
 use Prim.Native.Nat.{ℕ, suc, _≤_}
 use lib.Dec.{ltb, leb}

@@ -27,6 +27,6 @@ abbrev pub treeOf : Text → RuleTree
 treeOf x = orAny (readOf x)
 
 -- the rule that the segment's tree stands for. Of a segment whose tokens are those of a right rule it is that rule's (`segment-rule`,
--- proofs/Segments.antt).
+-- proofs/Shuffle.antt).
 abbrev pub segmentRule : Text → Rule
 segmentRule x = ruleOf (treeOf x)
