@@ -140,9 +140,10 @@ range-blank k (Span a b) = (to, from)
 
 head-blank : (many : Bool) (h : HeadTree) → Blank (headRows many h) ↔ (HeadWithin h × (many ≡ false))
 head-blank many (Plain o n) = (λ h. (tt, when-none many 26 .0 (h .0)), λ h. (when-none many 26 .1 (h .1), (refl, tt)))
-head-blank many (Modulo o m n) =
-    (λ h. (listed (isModulus (value m)) .0 (h .1 .1 .0), when-none many 26 .0 (h .0)),
-    λ h. (when-none many 26 .1 (h .1), (refl, (listed (isModulus (value m)) .1 (h .0), (refl, tt)))))
+head-blank many (Modulo o m n) = (
+  λ h. (listed (isModulus (value m)) .0 (h .1 .1 .0), when-none many 26 .0 (h .0)),
+  λ h. (when-none many 26 .1 (h .1), (refl, (listed (isModulus (value m)) .1 (h .0), (refl, tt)))),
+)
   where
     listed : (x : Bool) → (when (not x) 23 ≡ []) ↔ (x ≡ true)
     listed true = (λ e. refl, λ e. refl)
@@ -186,9 +187,10 @@ clause-blank j (Joined rs r) =
 
 rule-blank : (used : List Text) (r : RuleTree) → Blank (ruleRows used r) ↔ (RuleWithin r × (among (nameOf r) used ≡ false))
 rule-blank used (Bare k) = (λ h. name-none used k .0 (h .0), λ h. (name-none used k .1 h, (refl, tt)))
-rule-blank used (Named k cs c) =
-    (λ h. let a = name-none used k .0 (h .0) in let b = all-of .0 (h .1 .1) in ((a .0, b .0, omega (arith, b .1)), a .1),
-    λ h. let r = h .0 in (name-none used k .1 (r .0, h .1), (refl, all-of .1 (r .1, omega (arith, r .2), tt))))
+rule-blank used (Named k cs c) = (
+  λ h. let a = name-none used k .0 (h .0) in let b = all-of .0 (h .1 .1) in ((a .0, b .0, omega (arith, b .1)), a .1),
+  λ h. let r = h .0 in (name-none used k .1 (r .0, h .1), (refl, all-of .1 (r .1, omega (arith, r .2), tt))),
+)
   where
     all-of : Blank (inTurn clauseRows 0 cs c) ↔ (Every ClauseWithin (cs ++ (c ∷ [])) × (0 + length (cs ++ (c ∷ [])) ≤ maxClauses) × Unit {0})
     all-of = in-turn-blank clauseRows ClauseWithin maxClauses (Unit {0}) clause-blank 0 cs c

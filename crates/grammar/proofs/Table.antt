@@ -28,7 +28,7 @@ use Rattle.grammar.specs.Reader.Parsed.{Trees, Bad}
 use Rattle.grammar.specs.Reader.Fault.{None, At}
 use Rattle.grammar.specs.Reader.PackAnswer.{Rules, Refused}
 use Rattle.grammar.specs.WellFormed.{texts, WellFormed, Begins, Culprit, Unfinished}
-use Rattle.grammar.specs.Falls.{packRows, Earliest, Faulty, Tree}
+use Rattle.grammar.specs.Falls.{packRows, Earliest, Pack, Faulty, Tree}
 use Rattle.grammar.proofs.Viable.{Far, onward, outset, far, halt, alive-before, viable, never, not-ended, whole-alive, There, AtEnd, halts, been, behind}
 use Rattle.grammar.proofs.Exact.{ended, complete-pack}
 use Rattle.grammar.proofs.Sound.{told-rule}
@@ -189,6 +189,29 @@ formed-trees ts end w = go (halt outset ts end) refl
 pack-halts : (s : Text) (p : PackTree) → rightPack p ≡ true → texts (tokens 0 s) ≡ ofPack p → halt outset (tokens 0 s) (length s) ≡ Trees (rulesOf p)
 pack-halts s p g e = halt-whole s ∙ ap (behind []) (complete-pack s p g (ap texts (sym (tokens-whole s)) ∙ e))
 
+trees-eq : {rs qs : List RuleTree} → Trees rs ≡ Trees qs → rs ≡ qs
+trees-eq e = cc
+
+-- no pack has two trees
+snoc-eq : (rs qs : List RuleTree) (r q : RuleTree) → rs ++ (r ∷ []) ≡ qs ++ (q ∷ []) → Parted rs r ≡ Parted qs q
+snoc-eq [] [] r q e = let k : r ≡ q = cc in ap (Parted []) k
+snoc-eq [] (y ∷ []) r q e = absurd (let z : _≡_ {A = ℕ} 0 1 = cc in omega arith)
+snoc-eq [] (y ∷ x ∷ qs) r q e = absurd (let z : _≡_ {A = ℕ} 0 1 = cc in omega arith)
+snoc-eq (y ∷ []) [] r q e = absurd (let z : _≡_ {A = ℕ} 0 1 = cc in omega arith)
+snoc-eq (y ∷ x ∷ rs) [] r q e = absurd (let z : _≡_ {A = ℕ} 0 1 = cc in omega arith)
+snoc-eq (x ∷ rs) (y ∷ qs) r q e =
+    let h : x ≡ y = cc in
+    let k : rs ++ (r ∷ []) ≡ qs ++ (q ∷ []) = cc in
+    ap (behind-rule x) (snoc-eq rs qs r q k) ∙ ap (λ (z : RuleTree). behind-rule z (Parted qs q)) h
+  where
+    behind-rule : RuleTree → PackTree → PackTree
+    behind-rule z (Parted ts t) = Parted (z ∷ ts) t
+
+pub one-tree : (s : Text) (p q : PackTree) → Pack s p → Pack s q → p ≡ q
+one-tree s (Parted rs r) (Parted qs q) x y =
+    let k = sym (pack-halts s (Parted rs r) (x .right) (x .tokens-are)) ∙ pack-halts s (Parted qs q) (y .right) (y .tokens-are) in
+    snoc-eq rs qs r q (trees-eq k)
+
 -- ---- 22 to 26: the earliest of those that fall, then the lowest
 
 pub fault-none : (n a : ℕ) → faultAt n a ≡ None → n ≡ 0
@@ -273,11 +296,8 @@ read-rules s rs = (to, from)
           tree = t .0;
           pack = record { short = h; right = t .1; tokens-are = t .2 };
           within = clean-reading (tokens 0 s) (t .0) (t .1) (t .2) .1 (w .2);
-          rules = w .3 ∙ ap (map ruleOf) (the-rules (t .0) (w .0) (t .1) (t .2) (w .1));
+          rules = w .3 ∙ ap (map ruleOf) (trees-eq (sym (w .1) ∙ pack-halts s (t .0) (t .1) (t .2)));
         })
-      where
-        the-rules : (p : PackTree) (qs : List RuleTree) → rightPack p ≡ true → texts (tokens 0 s) ≡ ofPack p → halt outset (tokens 0 s) (length s) ≡ Trees qs → qs ≡ rulesOf p
-        the-rules p qs g e h = let k : Trees qs ≡ Trees (rulesOf p) = sym h ∙ pack-halts s p g e in cc
 
     from : Tree s rs → readPack s ≡ Rules rs
     from w =

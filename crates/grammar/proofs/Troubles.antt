@@ -78,7 +78,7 @@ modulus-first m = go (isModulus (value m))
 
 name-first : (d : List RuleTree) (used : List Text) (k : Text) → among k used ≡ among k (names d)
     → faultOn (record { rules = d; state = WantsName }) k ≡ first (nameRows used k)
-name-first d used k h = rw h (go (among k keywords) (among k (names d)))
+name-first d used k h = go (among k keywords) (among k (names d)) ∙ ap (λ (b : Bool). first (when (either (not (among k keywords)) b) 25)) (sym h)
   where
     go : (x y : Bool) → (if both true y then 25 else if x then 0 else 25) ≡ first (when (either (not x) y) 25)
     go true true = refl
