@@ -26,12 +26,12 @@ use Rattle.grammar.specs.Falls.{when, valueRows, rangeRows, headRows, in
 use Rattle.grammar.specs.Falls.Falls.{here, later}
 use Rattle.grammar.specs.Reader.{orElse, faultAt}
 use Rattle.grammar.specs.Reader.Fault.{None}
-use Rattle.grammar.proofs.Laws.{no-way}
+use Rattle.grammar.proofs.Laws.{no-way, every-append, every-left, every-right}
 use Rattle.grammar.proofs.Shuffle.{same-sym}
 use Rattle.grammar.proofs.Viable.{Far, onward, outset}
 use Rattle.grammar.proofs.Whole.{faults}
 use Rattle.grammar.proofs.Troubles.{first, rowsOn, pack-rows}
-use Rattle.grammar.proofs.Falling.{every-append, pack-ordered, given, none-given, pack-given}
+use Rattle.grammar.proofs.Falling.{pack-ordered, given, none-given, pack-given}
 
 -- no token has a row
 abbrev Blank : List (List ℕ) → Type 0
@@ -59,14 +59,6 @@ name-none used k = go (among k keywords) (among k used)
     go false y = (λ e. cons-nil e, λ e. no-way (sym (e .0)))
 
 -- ---- some in turn
-
-every-left : {A : Type 0} (P : A → Type 0) (a b : List A) → Every P (a ++ b) → Every P a
-every-left P [] b h = tt
-every-left P (x ∷ a) b h = (h .0, every-left P a b (h .1))
-
-every-right : {A : Type 0} (P : A → Type 0) (a b : List A) → Every P (a ++ b) → Every P b
-every-right P [] b h = h
-every-right P (x ∷ a) b h = every-right P a b (h .1)
 
 -- where one has no row exactly if it is right, fewer than m stand before it and Q holds, some have none exactly if each is right, they are at most m
 -- and Q holds

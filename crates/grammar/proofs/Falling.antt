@@ -1,7 +1,7 @@
 -- Which of the rows 22 to 26 is given: at the first token that falls under one, the first of its rows. So the reader's first fault is it.
 use mathlib.Core.Path.{_≡_, refl, sym, ap, _∙_}
 use mathlib.Core.Bool.{Bool, true, false, not}
-use mathlib.Core.List.{List, [], _∷_, _++_, map, List·Memᴰ, List·Memᴰ·head, List·Memᴰ·not-nil, List·Memᴰ·cases-cons, List·Memᴰ·eq-of-singleton}
+use mathlib.Core.List.{List, [], _∷_, _++_, map, List·Memᴰ, List·Memᴰ·head, List·Memᴰ·not-nil, List·Memᴰ·cases-cons, List·Memᴰ·eq-of-singleton, head-eq-of-cons-eq, tail-eq-of-cons-eq}
 use mathlib.Core.Logic.{_⊎_, inl, inr, _↔_}
 use Prim.Native.Nat.{ℕ, suc, _≤_}
 use native.Mathlib.Omega.{arith}
@@ -27,6 +27,7 @@ use Rattle.grammar.specs.Falls.{when, rangeRows, headRows, inTurn, relat
 use Rattle.grammar.specs.Falls.Falls.{here, later}
 use Rattle.grammar.specs.Reader.{Fault, orElse, faultAt}
 use Rattle.grammar.specs.Reader.Fault.{None, At}
+use Rattle.grammar.proofs.Laws.{every-append}
 use Rattle.grammar.proofs.Places.{or-0, or-1}
 use Rattle.grammar.proofs.Viable.{Far, onward, outset}
 use Rattle.grammar.proofs.Whole.{faults}
@@ -55,10 +56,6 @@ value-ordered true c n lo hi = λ m x. go m (List·Memᴰ·cases-cons x)
     go : (m : ℕ) → (m ≡ 22) ⊎ List·Memᴰ m (when c n) → (22 ≤ m) × (m ≤ 26) × (22 ≤ m)
     go m (inl e) = (omega arith, omega arith, omega arith)
     go m (inr x) = let w = when-ordered c n lo hi m x in (w .0, w .1, w .0)
-
-pub every-append : {A : Type 0} (P : A → Type 0) (a b : List A) → Every P a → Every P b → Every P (a ++ b)
-every-append P [] b x y = y
-every-append P (e ∷ a) b x y = (x .0, every-append P a b (x .1) y)
 
 in-turn-every : {A : Type 0} (P : List ℕ → Type 0) (f : ℕ → A → List (List ℕ)) → P [] → ((i : ℕ) (x : A) → Every P (f i x))
     → (i : ℕ) (xs : List A) (x : A) → Every P (inTurn f i xs x)
@@ -196,18 +193,12 @@ none-given ts rows n a o e (later {t = t} {ts = us} {rs = rs} {rows = qs} f) =
 
 -- ---- and of the reader
 
-cons-0 : {m n : ℕ} {a b : List ℕ} → m ∷ a ≡ n ∷ b → m ≡ n
-cons-0 e = cc
-
-cons-1 : {m n : ℕ} {a b : List ℕ} → m ∷ a ≡ n ∷ b → a ≡ b
-cons-1 e = cc
-
 faults-given : (p : Far) (ts : List Token) (rows : List (List ℕ)) → rowsOn p (texts ts) ≡ map first rows → faults p ts ≡ given ts rows
 faults-given p [] rows e = refl
 faults-given p (t ∷ ts) [] e = absurd (let z : _≡_ {A = ℕ} 0 1 = cc in omega arith)
 faults-given p (t ∷ ts) (rs ∷ rows) e =
-    ap (λ (n : ℕ). orElse (faultAt n (t .at)) (faults (onward p (t .text)) ts)) (cons-0 e)
-    ∙ ap (orElse (faultAt (first rs) (t .at))) (faults-given (onward p (t .text)) ts rows (cons-1 e))
+    ap (λ (n : ℕ). orElse (faultAt n (t .at)) (faults (onward p (t .text)) ts)) (head-eq-of-cons-eq e)
+    ∙ ap (orElse (faultAt (first rs) (t .at))) (faults-given (onward p (t .text)) ts rows (tail-eq-of-cons-eq e))
 
 -- of the tokens of a right tree
 pub pack-given : (ts : List Token) (p : PackTree) → rightPack p ≡ true → texts ts ≡ ofPack p → faults outset ts ≡ given ts (packRows p)

@@ -26,7 +26,7 @@ use Rattle.grammar.specs.RuleOf.{ruleOf}
 use Rattle.answer.specs.declared.Refusal.the-variants.{PackTooLong}
 use Rattle.rules.specs.Syntax.{Rule}
 use Rattle.token.proofs.Spellings.{both-0, both-1, both-in}
-use Rattle.grammar.proofs.Laws.{no-way}
+use Rattle.grammar.proofs.Laws.{no-way, map-append}
 use Rattle.grammar.proofs.Complete.{complete}
 use Rattle.grammar.proofs.Places.{words-at, fine-whole, whole-fine, clean, or-0, or-1, none-clean, clean-none, firstOf, keyword-first, fresh, again-fresh, fresh-again}
 
@@ -276,10 +276,6 @@ perm-rules (List·Permᴰ·cons e d) = List·Permᴰ·cons (ap segmentRule e) (p
 perm-rules (List·Permᴰ·swap e f) = List·Permᴰ·swap (ap segmentRule e) (ap segmentRule f)
 perm-rules (List·Permᴰ·trans d e) = List·Permᴰ·trans (perm-rules d) (perm-rules e)
 
-map-append : (xs zs : List Text) → map segmentRule (xs ++ zs) ≡ map segmentRule xs ++ map segmentRule zs
-map-append [] zs = refl
-map-append (x ∷ xs) zs = ap (λ (l : List Rule). segmentRule x ∷ l) (map-append xs zs)
-
 -- "A larger pack holds all rules of the smaller, byte for byte likewise and in any order, and besides them rules": its rules are the smaller's and
 -- those of the added segments, in some order
 pub larger : (s t : Text) (added : List Text) (rs qs : List Rule) → List·Permᴰ (segments s ++ added) (segments t)
@@ -287,4 +283,4 @@ pub larger : (s t : Text) (added : List Text) (rs qs : List Rule) → List·Perm
 larger s t added rs qs d e f =
     let a = own-rules s rs e .rules in
     let b = own-rules t qs f .rules in
-    rw (a, b, ← (map-append (segments s) added)) (perm-rules d)
+    rw (a, b, ← (map-append segmentRule (segments s) added)) (perm-rules d)

@@ -24,6 +24,7 @@ use Rattle.grammar.specs.Falls.{when, valueRows, rangeRows, headRows, in
 use Rattle.grammar.specs.Steps.{Front, State, step, steps, Read, ends}
 use Rattle.grammar.specs.Steps.State.{WantsName, WantsColon, WantsOperand, WantsValue}
 use Rattle.grammar.specs.Reader.{isDead, trouble}
+use Rattle.grammar.proofs.Laws.{map-append}
 use Rattle.grammar.proofs.Complete.{last, range, last-comma, headed, relation, front, last-and, last-or, clause, complete}
 use Rattle.grammar.proofs.Places.{dead-is, dead-stays}
 use Rattle.grammar.proofs.Viable.{Far, closed, onward, far, outset, far-rule, whole-alive}
@@ -96,10 +97,6 @@ troubles-append : (s : State) (a b : List Text) → troubles s (a ++ b) ≡ trou
 troubles-append s [] b = refl
 troubles-append s (t ∷ a) b = ap (λ (l : List ℕ). trouble s t ∷ l) (troubles-append (step s t) a b)
 
-map-append : (a b : List (List ℕ)) → map first (a ++ b) ≡ map first a ++ map first b
-map-append [] b = refl
-map-append (x ∷ a) b = ap (λ (l : List ℕ). first x ∷ l) (map-append a b)
-
 -- some in turn, `sep` between two: where each alone has its rows, and `sep` none, all have theirs
 module _ {A : Type 0} (w : A → List Text) (sep : Text) (right : A → Bool) (state : List A → State) (rows : ℕ → A → List (List ℕ))
     (one : (xs : List A) (x : A) → right x ≡ true → troubles (state xs) (w x) ≡ map first (rows (length xs) x))
@@ -121,7 +118,7 @@ module _ {A : Type 0} (w : A → List Text) (sep : Text) (right : A → Bool) (s
       ∙ ap (λ (v : State). map first (rows (length xs) x) ++ (0 ∷ troubles v z)) (goes xs x p)
       ∙ ap (λ (l : List ℕ). map first (rows (length xs) x) ++ (0 ∷ l)) ih
       ∙ ap (λ (k : ℕ). map first (rows (length xs) x) ++ (0 ∷ map first (inTurn rows k ys y))) n
-      ∙ sym (map-append (rows (length xs) x) ([] ∷ inTurn rows (suc (length xs)) ys y))
+      ∙ sym (map-append first (rows (length xs) x) ([] ∷ inTurn rows (suc (length xs)) ys y))
 
 -- ---- ranges, heads, relations, clauses
 
@@ -155,7 +152,7 @@ relation-rows f (Rel h vs v) e =
     ∙ ap (λ (l : List ℕ). l ++ troubles (steps (WantsOperand f) (ofHead h)) us) (head-rows f h p)
     ∙ ap (λ (s : State). map first (headRows m h) ++ troubles s us) (headed f h p)
     ∙ ap (λ (l : List ℕ). map first (headRows m h) ++ l) (ranges (both-0 (all rightRange vs) (rightRange v) q) (both-1 (all rightRange vs) (rightRange v) q))
-    ∙ sym (map-append (headRows m h) (inTurn rangeRows 0 vs v))
+    ∙ sym (map-append first (headRows m h) (inTurn rangeRows 0 vs v))
   where
     ranges : all rightRange vs ≡ true → rightRange v ≡ true
         → troubles (WantsValue f h []) (each ofRange comma vs ++ ofRange v) ≡ map first (inTurn rangeRows 0 vs v)
@@ -270,7 +267,7 @@ rules-rows d used h (q ∷ rs) r g e =
     ∙ ap (λ (x : Read). ns ++ (0 ∷ rowsOn (closed d x) z)) c
     ∙ ap (λ (l : List ℕ). ns ++ (0 ∷ l))
     (rules-rows (d ++ (q ∷ [])) (nameOf q ∷ used) (one-more used d q h) rs r (both-1 (rightRule q) (all rightRule rs) g) e)
-    ∙ sym (map-append (ruleRows used q) ([] ∷ rulesRows (nameOf q ∷ used) rs r))
+    ∙ sym (map-append first (ruleRows used q) ([] ∷ rulesRows (nameOf q ∷ used) rs r))
 
 -- the reader's rows of a right tree's tokens are the lowest of the tree's
 pub pack-rows : (p : PackTree) → rightPack p ≡ true → rowsOn outset (ofPack p) ≡ map first (packRows p)
