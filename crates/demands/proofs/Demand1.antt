@@ -225,7 +225,7 @@ packCode (PackRefused r) = numberOf r
 pack-row : {s : List ℕ} {a : PackAnswer} → PackVerdict s a → ZeroOr (Within 20 26 (packCode a)) (packCode a)
 pack-row (too-long h) = inr (omega arith, omega arith)
 pack-row (not-a-pack a h w) = inr (omega arith, omega arith)
-pack-row (faulty n a lo hi h w f) = let k = pack-rows (rowOf n) in inr (omega (arith, k .0), k .1)
+pack-row (faulty n a lo hi w) = let k = pack-rows (rowOf n) in inr (omega (arith, k .0), k .1)
 pack-row (read-pack rules t) = inl refl
 
 -- a refusal of the pack is 20 to 26, one of the number 10 to 15

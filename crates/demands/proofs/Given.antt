@@ -112,14 +112,14 @@ is-pack s =
 pub pack-given : (s : List ℕ) {a : PackAnswer} → PackVerdict s a → readPack s ≡ a
 pack-given s (too-long h) = row-20 s .1 h
 pack-given s (not-a-pack a h w) = row-21 s a .1 (h, w)
-pack-given s (faulty n a lo hi h w f) = rows-22-26 s n a lo hi .1 (h, w, f)
+pack-given s (faulty n a lo hi w) = rows-22-26 s n a lo hi .1 w
 pack-given s (read-pack rules t) = read-rules s rules .1 t
 
 pub pack-found : (s : List ℕ) → PackVerdict s (readPack s)
 pack-found s = by (readPack s) refl
   where
     at-row : (n a : ℕ) → 22 ≤ n → n ≤ 26 → readPack s ≡ refusedAt (rowOf n) a → PackVerdict s (refusedAt (rowOf n) a)
-    at-row n a lo hi e = let w = rows-22-26 s n a lo hi .0 e in faulty n a lo hi (w .0) (w .1) (w .2)
+    at-row n a lo hi e = faulty n a lo hi (rows-22-26 s n a lo hi .0 e)
 
     other : {A : Type 0} (r : Refusal) → readPack s ≡ PackRefused r → ofPack r ≡ false → A
     other r e f = not-both (is-pack s) (ap isPack e ∙ f)

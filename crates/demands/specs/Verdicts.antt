@@ -22,9 +22,8 @@ use Rattle.token.specs.Token.{tokens}
 use Rattle.grammar.specs.Limits.{maxBytes}
 use Rattle.grammar.specs.Reader.{PackAnswer, refusedAt, rowOf}
 use Rattle.grammar.specs.Reader.PackAnswer.{Rules, Refused as PackRefused}
-use Rattle.grammar.proofs.Places.{texts}
-use Rattle.grammar.proofs.Viable.{outset, WellFormed, Culprit, Unfinished}
-use Rattle.grammar.proofs.Table.{First, Tree}
+use Rattle.grammar.specs.WellFormed.{Culprit, Unfinished}
+use Rattle.grammar.specs.Falls.{Faulty, Tree}
 use Rattle.plural.specs.Words.{Chosen}
 use Rattle.plural.specs.declared.Selection.{Selection}
 use Rattle.plural.specs.declared.Selection.the-variants.{Refused as SelectionRefused}
@@ -55,8 +54,7 @@ pub data PackVerdict (s : List ℕ) : PackAnswer → Type 0 where
   -- 21: "start of the first token or stray byte no well-formed pack could have there, else the length"
   not-a-pack : (a : ℕ) → length s ≤ maxBytes → Culprit (tokens 0 s) a ⊎ Unfinished (tokens 0 s) (length s) a → PackVerdict s (refusedAt NotAPack a)
   -- 22 to 26, "by the earliest place, then the lowest number"
-  faulty : (n a : ℕ) → 22 ≤ n → n ≤ 26 → length s ≤ maxBytes → WellFormed (texts (tokens 0 s)) → First outset (tokens 0 s) n a
-      → PackVerdict s (refusedAt (rowOf n) a)
+  faulty : (n a : ℕ) → 22 ≤ n → n ≤ 26 → Faulty s n a → PackVerdict s (refusedAt (rowOf n) a)
   read : (rules : List Rule) → Tree s rules → PackVerdict s (Rules rules)
 
 -- ---- "Selection tests pack, number, 27."

@@ -24,15 +24,15 @@ next : (s m n : State) (a : List Text) (t : Text) (b : List Text) → steps s a 
 next s m n a t b e g = steps-append s a (t ∷ b) ∙ ap (λ (x : State). steps (step x t) b) e ∙ ap (λ (x : State). steps x b) g
 
 -- after the last value or range of a relation
-abbrev last : Front → HeadTree → List RangeTree → RangeTree → State
+abbrev pub last : Front → HeadTree → List RangeTree → RangeTree → State
 last f h vs (One a) = HasValue f h vs a
 last f h vs (Span a b) = HasUpper f h vs a b
 
-range : (f : Front) (h : HeadTree) (vs : List RangeTree) (v : RangeTree) → rightRange v ≡ true → steps (WantsValue f h vs) (ofRange v) ≡ last f h vs v
+pub range : (f : Front) (h : HeadTree) (vs : List RangeTree) (v : RangeTree) → rightRange v ≡ true → steps (WantsValue f h vs) (ofRange v) ≡ last f h vs v
 range f h vs (One a) e = rw e
 range f h vs (Span a b) e = rw (both-0 (isNumber a) (isNumber b) e, both-1 (isNumber a) (isNumber b) e)
 
-last-comma : (f : Front) (h : HeadTree) (vs : List RangeTree) (v : RangeTree) → step (last f h vs v) comma ≡ WantsValue f h (vs ++ (v ∷ []))
+pub last-comma : (f : Front) (h : HeadTree) (vs : List RangeTree) (v : RangeTree) → step (last f h vs v) comma ≡ WantsValue f h (vs ++ (v ∷ []))
 last-comma f h vs (One a) = refl
 last-comma f h vs (Span a b) = refl
 
@@ -44,13 +44,13 @@ values f h vs (u ∷ us) e =
     (range f h vs u (both-0 (rightRange u) (all rightRange us) e)) (last-comma f h vs u)
     ∙ values f h (vs ++ (u ∷ [])) us (both-1 (rightRange u) (all rightRange us) e) ∙ simp append-assoc
 
-headed : (f : Front) (h : HeadTree) → rightHead h ≡ true → steps (WantsOperand f) (ofHead h) ≡ WantsValue f h []
+pub headed : (f : Front) (h : HeadTree) → rightHead h ≡ true → steps (WantsOperand f) (ofHead h) ≡ WantsValue f h []
 headed f (Plain o false) e = rw e
 headed f (Plain o true) e = rw e
 headed f (Modulo o m false) e = rw (both-0 (isOperand o) (isNumber m) e, both-1 (isOperand o) (isNumber m) e)
 headed f (Modulo o m true) e = rw (both-0 (isOperand o) (isNumber m) e, both-1 (isOperand o) (isNumber m) e)
 
-relation : (f : Front) (h : HeadTree) (vs : List RangeTree) (v : RangeTree) → rightRelation (Rel h vs v) ≡ true
+pub relation : (f : Front) (h : HeadTree) (vs : List RangeTree) (v : RangeTree) → rightRelation (Rel h vs v) ≡ true
     → steps (WantsOperand f) (ofRelation (Rel h vs v)) ≡ last f h vs v
 relation f h vs v e =
     let p = both-0 (rightHead h) (both (all rightRange vs) (rightRange v)) e in
@@ -63,15 +63,15 @@ relation f h vs v e =
     )
     (range f h vs v (both-1 (all rightRange vs) (rightRange v) q))
 
-abbrev front : Text → List ClauseTree → List RelationTree → Front
+abbrev pub front : Text → List ClauseTree → List RelationTree → Front
 front k cs rs = record { name = k; clauses = cs; relations = rs }
 
-last-and : (k : Text) (cs : List ClauseTree) (rs : List RelationTree) (h : HeadTree) (vs : List RangeTree) (v : RangeTree)
+pub last-and : (k : Text) (cs : List ClauseTree) (rs : List RelationTree) (h : HeadTree) (vs : List RangeTree) (v : RangeTree)
     → step (last (front k cs rs) h vs v) and ≡ WantsOperand (front k cs (rs ++ (Rel h vs v ∷ [])))
 last-and k cs rs h vs (One a) = refl
 last-and k cs rs h vs (Span a b) = refl
 
-last-or : (k : Text) (cs : List ClauseTree) (rs : List RelationTree) (h : HeadTree) (vs : List RangeTree) (v : RangeTree)
+pub last-or : (k : Text) (cs : List ClauseTree) (rs : List RelationTree) (h : HeadTree) (vs : List RangeTree) (v : RangeTree)
     → step (last (front k cs rs) h vs v) or ≡ WantsOperand (front k (cs ++ (Joined rs (Rel h vs v) ∷ [])) [])
 last-or k cs rs h vs (One a) = refl
 last-or k cs rs h vs (Span a b) = refl
@@ -91,7 +91,7 @@ relations k cs rs (Rel h vs v ∷ us) e =
     (relation (front k cs rs) h vs v p) (last-and k cs rs h vs v)
     ∙ relations k cs (rs ++ (Rel h vs v ∷ [])) us q ∙ simp append-assoc
 
-clause : (k : Text) (cs : List ClauseTree) (rs : List RelationTree) (h : HeadTree) (vs : List RangeTree) (v : RangeTree) → rightClause (Joined rs (Rel h vs v)) ≡ true
+pub clause : (k : Text) (cs : List ClauseTree) (rs : List RelationTree) (h : HeadTree) (vs : List RangeTree) (v : RangeTree) → rightClause (Joined rs (Rel h vs v)) ≡ true
     → steps (WantsOperand (front k cs [])) (ofClause (Joined rs (Rel h vs v))) ≡ last (front k cs rs) h vs v
 clause k cs rs h vs v p =
     rw (

@@ -1,11 +1,12 @@
--- Laws of written lists and of tests of all.
-use mathlib.Core.Path.{_≡_, refl}
+-- Laws of written lists, of tests of all and of what holds of every one.
+use mathlib.Core.Path.{_≡_, refl, ap}
 use mathlib.Core.Bool.{Bool, true, false}
-use mathlib.Core.List.{List, [], _∷_, _++_, append-assoc}
+use mathlib.Core.List.{List, [], _∷_, _++_, map, append-assoc}
 use Prim.Native.Nat.{ℕ}
 use native.Mathlib.Omega.{arith}
 use Rattle.token.proofs.Spellings.{both-0, both-1, both-in}
 use Rattle.grammar.specs.Grammar.{Text, all, each}
+use Rattle.grammar.specs.Within.{Every}
 
 pub no-way : {A : Type 0} → true ≡ false → A
 no-way e = absurd (let z : _≡_ {A = ℕ} 0 1 = cc in omega arith)
@@ -18,3 +19,19 @@ each-snoc w sep (y ∷ ys) x = rw (each-snoc w sep ys x) (simp append-assoc)
 pub all-snoc : {A : Type 0} (p : A → Bool) (xs : List A) (x : A) → all p xs ≡ true → p x ≡ true → all p (xs ++ (x ∷ [])) ≡ true
 all-snoc p [] x h k = both-in k refl
 all-snoc p (y ∷ ys) x h k = both-in (both-0 (p y) (all p ys) h) (all-snoc p ys x (both-1 (p y) (all p ys) h) k)
+
+pub map-append : {A B : Type 0} (f : A → B) (a b : List A) → map f (a ++ b) ≡ map f a ++ map f b
+map-append f [] b = refl
+map-append {A} {B} f (x ∷ a) b = ap (λ (l : List B). f x ∷ l) (map-append f a b)
+
+pub every-append : {A : Type 0} (P : A → Type 0) (a b : List A) → Every P a → Every P b → Every P (a ++ b)
+every-append P [] b x y = y
+every-append P (e ∷ a) b x y = (x .0, every-append P a b (x .1) y)
+
+pub every-left : {A : Type 0} (P : A → Type 0) (a b : List A) → Every P (a ++ b) → Every P a
+every-left P [] b h = tt
+every-left P (x ∷ a) b h = (h .0, every-left P a b (h .1))
+
+pub every-right : {A : Type 0} (P : A → Type 0) (a b : List A) → Every P (a ++ b) → Every P b
+every-right P [] b h = h
+every-right P (x ∷ a) b h = every-right P a b (h .1)

@@ -5,7 +5,9 @@ pub mod Places
 pub mod Shuffle
 pub mod Viable
 pub mod Exact
-pub mod Rows
 pub mod Whole
+pub mod Troubles
+pub mod Falling
+pub mod Bounded
 pub mod Table
 pub mod Prefix

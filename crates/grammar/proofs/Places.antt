@@ -9,6 +9,8 @@ use lib.ListN.{length, take, drop}
 use Rattle.decimal.specs.Choice.{if_then_else_, both}
 use Rattle.token.specs.Spelling.{among}
 use Rattle.grammar.specs.Grammar.{Text, RuleTree}
+use Rattle.grammar.specs.WellFormed.{texts}
+use Rattle.grammar.specs.Segment.{words}
 use Rattle.grammar.specs.Steps.{State, step, steps, Read, ends}
 use Rattle.grammar.specs.Steps.State.{WantsName, WantsColon, WantsNothing, WantsOperand, HasOperand, WantsModulus, HasModulus, WantsValue, HasValue, WantsUpper, HasUpper, Dead}
 use Rattle.grammar.specs.Steps.Read.{Whole, Cut}
@@ -20,10 +22,6 @@ use Rattle.decimal.proofs.Choices.{choice}
 use Rattle.token.proofs.Spellings.{both-0, both-1, both-in}
 use Rattle.grammar.proofs.Laws.{no-way}
 
-abbrev pub texts : List Token → List Text
-texts [] = []
-texts (t ∷ ts) = t .text ∷ texts ts
-
 texts-any : (k a b : ℕ) (s : Text) → texts (tokensFor k a s) ≡ texts (tokensFor k b s)
 texts-any zero a b s = refl
 texts-any (suc k) a b s = go (eqb (length s) 0) (isWhite s) (tokensFor k (a + pieceLen s) (drop (pieceLen s) s)) (tokensFor k (b + pieceLen s) (drop (pieceLen s) s)) (texts-any k (a + pieceLen s) (b + pieceLen s) (drop (pieceLen s) s))
@@ -34,10 +32,6 @@ texts-any (suc k) a b s = go (eqb (length s) 0) (isWhite s) (tokensFor k (a + pi
     go true w x y h = refl
     go false true x y h = h
     go false false x y h = ap (λ (l : List Text). take (pieceLen s) s ∷ l) h
-
--- the tokens of a segment, without their places
-abbrev pub words : Text → List Text
-words x = texts (tokens 0 x)
 
 pub words-at : (a : ℕ) (x : Text) → texts (tokens a x) ≡ words x
 words-at a x = texts-any (length x) a 0 x

@@ -17,12 +17,14 @@ use Rattle.token.specs.Token.{whites, whiteLen, isWhite, isLetter, letters, dot
 use Rattle.token.proofs.Spellings.{both-0, both-1, both-in}
 use Rattle.token.proofs.Pieces.{piece, pieced, tokens-turn}
 use Rattle.grammar.specs.Grammar.{Text, all, colon, equal, other}
+use Rattle.grammar.specs.WellFormed.{texts, WellFormed, Culprit, Unfinished}
+use Rattle.grammar.specs.Segment.{words}
 use Rattle.grammar.specs.Steps.{State}
 use Rattle.grammar.specs.Steps.State.{WantsName, WantsColon, WantsNothing, WantsOperand, HasOperand, WantsModulus, HasModulus, WantsValue, HasValue, WantsUpper, HasUpper, Dead}
 use Rattle.grammar.specs.Reader.{isDead}
-use Rattle.grammar.proofs.Places.{texts, words, words-at}
-use Rattle.grammar.proofs.Viable.{far, outset, ending, viable-by, WellFormed, Culprit, Unfinished}
-use Rattle.grammar.proofs.Table.{begins-alive}
+use Rattle.grammar.proofs.Places.{words-at}
+use Rattle.grammar.proofs.Viable.{far, outset, ending, viable-by}
+use Rattle.grammar.proofs.Table.{texts-append, begins-alive}
 
 -- ---- a front of a text that has its first piece whole begins with the same piece
 
@@ -325,10 +327,6 @@ ending-is (HasValue f h vs a) = refl
 ending-is (WantsUpper f h vs a) = refl
 ending-is (HasUpper f h vs a b) = refl
 ending-is Dead = refl
-
-texts-append : (a b : List Token) → texts (a ++ b) ≡ texts a ++ texts b
-texts-append [] b = refl
-texts-append (t ∷ a) b = ap (λ (l : List Text). t .text ∷ l) (texts-append a b)
 
 -- a text is a well-formed pack, and begins with these tokens
 pub record PackWith (us : List Text) : Type 0 where

@@ -10,12 +10,12 @@ use borrow.Author.Tests.{eqb-true, eqb-false, eq-eqb, ne-eqb, ltb-false, le-ltb}
 use Rattle.decimal.specs.Split.{onFirst}
 use Rattle.decimal.specs.Choice.{if_then_else_, both}
 use Rattle.token.specs.Spelling.{same, among}
-use Rattle.grammar.specs.Grammar.{Text, all, RuleTree}
-use Rattle.grammar.specs.Grammar.RuleTree.{Bare}
+use Rattle.grammar.specs.Grammar.{Text, all, RuleTree, ofRule, rightRule}
 use Rattle.grammar.specs.Steps.{steps, Read, ends}
 use Rattle.grammar.specs.Steps.State.{WantsName}
 use Rattle.grammar.specs.Steps.Read.{Whole, Cut}
 use Rattle.grammar.specs.Limits.{maxBytes}
+use Rattle.grammar.specs.Segment.{words, orAny, readOf, treeOf, segmentRule}
 use Rattle.token.specs.Token.{tokens}
 use Rattle.grammar.specs.Reader.{segments, Stop, stop, Fault, faultIn, again, keywordIn, Parsed, andThen, rulesFrom, faultFrom, judge, readPack}
 use Rattle.grammar.specs.Reader.Stop.{Fine, Stuck}
@@ -26,23 +26,13 @@ use Rattle.grammar.specs.RuleOf.{ruleOf}
 use Rattle.answer.specs.declared.Refusal.the-variants.{PackTooLong}
 use Rattle.rules.specs.Syntax.{Rule}
 use Rattle.token.proofs.Spellings.{both-0, both-1, both-in}
-use Rattle.grammar.proofs.Laws.{no-way}
-use Rattle.grammar.proofs.Places.{words, words-at, fine-whole, whole-fine, clean, or-0, or-1, none-clean, clean-none, firstOf, keyword-first, fresh, again-fresh, fresh-again}
-
--- the rule of a segment by itself, if it has one (else any)
-abbrev orAny : Read → RuleTree
-orAny (Whole r) = r
-orAny Cut = Bare []
+use Rattle.grammar.proofs.Laws.{no-way, map-append}
+use Rattle.grammar.proofs.Complete.{complete}
+use Rattle.grammar.proofs.Places.{words-at, fine-whole, whole-fine, clean, or-0, or-1, none-clean, clean-none, firstOf, keyword-first, fresh, again-fresh, fresh-again}
 
 abbrev isWhole : Read → Bool
 isWhole (Whole r) = true
 isWhole Cut = false
-
-abbrev pub readOf : Text → Read
-readOf x = ends (steps WantsName (words x))
-
-abbrev pub treeOf : Text → RuleTree
-treeOf x = orAny (readOf x)
 
 -- a segment that is a rule without a fault
 abbrev pub good : Text → Bool
@@ -136,7 +126,7 @@ apart-same u v (x ∷ xs) h =
     let k = firstOf (words x) in
     rw (fresh-same u v h (words x), apart-same (k ∷ u) (k ∷ v) xs (λ t. ap (λ (b : Bool). if same t k then true else b) (h t)))
 
-same-sym : (s t : Text) → same s t ≡ same t s
+pub same-sym : (s t : Text) → same s t ≡ same t s
 same-sym [] [] = refl
 same-sym [] (y ∷ t) = refl
 same-sym (x ∷ s) [] = refl
@@ -231,9 +221,9 @@ is-fine false (Bad a) f rs e = absurd (let z : _≡_ {A = ℕ} 0 1 = cc in omega
 is-fine false (Trees qs) None rs e = (refl, qs, refl, refl, cc)
 is-fine false (Trees qs) (At n a) rs e = absurd (let z : _≡_ {A = ℕ} 0 1 = cc in omega arith)
 
--- the rule of a segment, by its bytes alone
-abbrev pub segmentRule : Text → Rule
-segmentRule x = ruleOf (treeOf x)
+-- of a segment whose tokens are those of a right rule, it is that rule's
+pub segment-rule : (x : Text) (r : RuleTree) → rightRule r ≡ true → words x ≡ ofRule r → segmentRule x ≡ ruleOf r
+segment-rule x r g e = ap (λ (l : List Text). ruleOf (orAny (ends (steps WantsName l)))) e ∙ ap (λ (q : Read). ruleOf (orAny q)) (complete r g)
 
 map-map : (xs : List Text) → map ruleOf (map treeOf xs) ≡ map segmentRule xs
 map-map [] = refl
@@ -286,10 +276,6 @@ perm-rules (List·Permᴰ·cons e d) = List·Permᴰ·cons (ap segmentRule e) (p
 perm-rules (List·Permᴰ·swap e f) = List·Permᴰ·swap (ap segmentRule e) (ap segmentRule f)
 perm-rules (List·Permᴰ·trans d e) = List·Permᴰ·trans (perm-rules d) (perm-rules e)
 
-map-append : (xs zs : List Text) → map segmentRule (xs ++ zs) ≡ map segmentRule xs ++ map segmentRule zs
-map-append [] zs = refl
-map-append (x ∷ xs) zs = ap (λ (l : List Rule). segmentRule x ∷ l) (map-append xs zs)
-
 -- "A larger pack holds all rules of the smaller, byte for byte likewise and in any order, and besides them rules": its rules are the smaller's and
 -- those of the added segments, in some order
 pub larger : (s t : Text) (added : List Text) (rs qs : List Rule) → List·Permᴰ (segments s ++ added) (segments t)
@@ -297,4 +283,4 @@ pub larger : (s t : Text) (added : List Text) (rs qs : List Rule) → List·Perm
 larger s t added rs qs d e f =
     let a = own-rules s rs e .rules in
     let b = own-rules t qs f .rules in
-    rw (a, b, ← (map-append (segments s) added)) (perm-rules d)
+    rw (a, b, ← (map-append segmentRule (segments s) added)) (perm-rules d)

@@ -1,45 +1,40 @@
 -- Rows 20 to 26 of document 01's table: each is given exactly when its row says, with its figure.
-use mathlib.Core.Path.{_≡_, refl, sym, ap, _∙_}
+use mathlib.Core.Path.{_≡_, refl, sym, ap, _∙_, subst}
 use mathlib.Core.Bool.{Bool, true, false}
 use mathlib.Core.List.{List, [], _∷_, _++_, map}
-use mathlib.Core.Logic.{_⊎_, inl, inr}
+use mathlib.Core.Logic.{_⊎_, inl, inr, _↔_}
 use Prim.Native.Nat.{ℕ, _≤_, _<_}
 use native.Mathlib.Omega.{arith}
 use lib.Dec.{eqb, ltb}
 use lib.ListN.{length, getD}
-use borrow.Author.Tests.{ltb-true, ltb-false, lt-ltb, le-ltb, eqb-true, eqb-false, ne-eqb}
-use Rattle.decimal.specs.Choice.{if_then_else_, both}
-use Rattle.decimal.specs.Digits.{value}
+use borrow.Author.Tests.{ltb-true, ltb-false, lt-ltb, le-ltb, eqb-true, eqb-false}
+use Rattle.decimal.specs.Choice.{if_then_else_}
 use Rattle.decimal.proofs.Choices.{choice, tested}
 use Rattle.answer.specs.Table.{packRow, figuresOf}
 use Rattle.answer.specs.declared.PackRow.{PackRow}
 use Rattle.answer.specs.declared.PackRow.the-variants.{NotAPack}
 use Rattle.answer.specs.declared.Refusal.the-variants.{PackTooLong}
 use Rattle.rules.specs.Syntax.{Rule}
-use Rattle.token.specs.Spelling.{among}
 use Rattle.token.proofs.Spellings.{both-in}
 use Rattle.token.specs.Token.{Token, tokens}
-use Rattle.grammar.specs.Limits.{maxBytes, maxValue, maxClauses, maxRelations, maxRanges, isModulus}
-use Rattle.grammar.specs.Grammar.{Text, RuleTree, PackTree, semi, each, ofRule, ofPack, rightPack}
+use Rattle.grammar.specs.Limits.{maxBytes}
+use Rattle.grammar.specs.Grammar.{Text, RuleTree, PackTree, rulesOf, semi, each, ofRule, ofPack, rightPack}
 use Rattle.grammar.specs.Grammar.PackTree.{Parted}
 use Rattle.grammar.specs.RuleOf.{ruleOf}
-use Rattle.grammar.specs.Steps.{State, Read, ends}
-use Rattle.grammar.specs.Steps.State.{WantsName, WantsColon, WantsNothing, WantsOperand, HasOperand, WantsModulus, HasModulus, WantsValue, HasValue, WantsUpper, HasUpper, Dead}
+use Rattle.grammar.specs.Steps.{Read, ends}
 use Rattle.grammar.specs.Steps.Read.{Whole, Cut}
-use Rattle.grammar.specs.Reader.{isDead, keywords, Parsed, trouble, Fault, orElse, faultAt, rowOf, PackAnswer, refusedAt, judge, readPack}
+use Rattle.grammar.specs.Reader.{isDead, Parsed, Fault, faultAt, rowOf, PackAnswer, refusedAt, judge, readPack}
 use Rattle.grammar.specs.Reader.Parsed.{Trees, Bad}
 use Rattle.grammar.specs.Reader.Fault.{None, At}
 use Rattle.grammar.specs.Reader.PackAnswer.{Rules, Refused}
-use Rattle.grammar.proofs.Places.{texts, or-0, or-1}
-use Rattle.grammar.proofs.Viable.{Far, onward, outset, far, halt, alive-before, viable, never, not-ended, whole-alive, Begins, WellFormed, Culprit, Unfinished, There, AtEnd, halts, been, behind}
-use Rattle.grammar.proofs.Exact.{ended, rulesOf, complete-pack}
+use Rattle.grammar.specs.WellFormed.{texts, WellFormed, Begins, Culprit, Unfinished}
+use Rattle.grammar.specs.Falls.{packRows, Earliest, Pack, Faulty, Tree}
+use Rattle.grammar.proofs.Viable.{Far, onward, outset, far, halt, alive-before, viable, never, not-ended, whole-alive, There, AtEnd, halts, been, behind}
+use Rattle.grammar.proofs.Exact.{ended, complete-pack}
 use Rattle.grammar.proofs.Sound.{told-rule}
-use Rattle.grammar.proofs.Whole.{faultOn, faults, isName, names, tokens-whole, halt-whole, read-whole}
-
--- two directions
-infix 1 _iff_
-abbrev pub _iff_ : Type 0 → Type 0 → Type 0
-A iff B = (A → B) × (B → A)
+use Rattle.grammar.proofs.Whole.{faults, tokens-whole, halt-whole, read-whole}
+use Rattle.grammar.proofs.Falling.{falls-rows, fault-earliest}
+use Rattle.grammar.proofs.Bounded.{clean-reading}
 
 -- the answer to a pack that is short enough
 abbrev pub told : List Token → ℕ → PackAnswer
@@ -52,7 +47,7 @@ judged-not-long (Bad a) f e = let z : _≡_ {A = ℕ} 0 1 = cc in omega arith
 judged-not-long (Trees rs) None e = let z : _≡_ {A = ℕ} 0 1 = cc in omega arith
 judged-not-long (Trees rs) (At n a) e = let z : _≡_ {A = ℕ} 0 1 = cc in omega arith
 
-pub row-20 : (s : Text) → (readPack s ≡ Refused PackTooLong) iff (maxBytes < length s)
+pub row-20 : (s : Text) → (readPack s ≡ Refused PackTooLong) ↔ (maxBytes < length s)
 row-20 s = (to, λ h. rw (lt-ltb maxBytes (length s) h))
   where
     to : readPack s ≡ Refused PackTooLong → maxBytes < length s
@@ -151,7 +146,7 @@ told-21 (Trees rs) None a e = absurd (let z : _≡_ {A = ℕ} 0 1 = cc in omega 
 told-21 (Trees rs) (At n b) a e = absurd (rows-apart n b a e)
 
 pub row-21 : (s : Text) (a : ℕ)
-    → (readPack s ≡ refusedAt NotAPack a) iff ((length s ≤ maxBytes) × (Culprit (tokens 0 s) a ⊎ Unfinished (tokens 0 s) (length s) a))
+    → (readPack s ≡ refusedAt NotAPack a) ↔ ((length s ≤ maxBytes) × (Culprit (tokens 0 s) a ⊎ Unfinished (tokens 0 s) (length s) a))
 row-21 s a = (to, from)
   where
     to : readPack s ≡ refusedAt NotAPack a → (length s ≤ maxBytes) × (Culprit (tokens 0 s) a ⊎ Unfinished (tokens 0 s) (length s) a)
@@ -164,7 +159,7 @@ row-21 s a = (to, from)
 
 -- ---- the pack grammar
 
-texts-append : (a b : List Token) → texts (a ++ b) ≡ texts a ++ texts b
+pub texts-append : (a b : List Token) → texts (a ++ b) ≡ texts a ++ texts b
 texts-append [] b = refl
 texts-append (t ∷ a) b = ap (λ (l : List Text). t .text ∷ l) (texts-append a b)
 
@@ -190,16 +185,34 @@ formed-trees ts end w = go (halt outset ts end) refl
     go (Trees rs) e = (rs, e)
     go (Bad a) e = absurd (no (stops ts end a e))
 
--- ---- 22 to 26: the first token with a fault
+-- the tokens of a right tree are read as its rules
+pack-halts : (s : Text) (p : PackTree) → rightPack p ≡ true → texts (tokens 0 s) ≡ ofPack p → halt outset (tokens 0 s) (length s) ≡ Trees (rulesOf p)
+pack-halts s p g e = halt-whole s ∙ ap (behind []) (complete-pack s p g (ap texts (sym (tokens-whole s)) ∙ e))
 
-pub record First (p : Far) (ts : List Token) (n a : ℕ) : Type 0 where
-  pub before : List Token
-  pub token : Token
-  pub after : List Token
-  pub is : ts ≡ before ++ (token ∷ after)
-  pub place : token .at ≡ a
-  pub clean : faults p before ≡ None
-  pub here : faultOn (far p (texts before)) (token .text) ≡ n
+trees-eq : {rs qs : List RuleTree} → Trees rs ≡ Trees qs → rs ≡ qs
+trees-eq e = cc
+
+-- no pack has two trees
+snoc-eq : (rs qs : List RuleTree) (r q : RuleTree) → rs ++ (r ∷ []) ≡ qs ++ (q ∷ []) → Parted rs r ≡ Parted qs q
+snoc-eq [] [] r q e = let k : r ≡ q = cc in ap (Parted []) k
+snoc-eq [] (y ∷ []) r q e = absurd (let z : _≡_ {A = ℕ} 0 1 = cc in omega arith)
+snoc-eq [] (y ∷ x ∷ qs) r q e = absurd (let z : _≡_ {A = ℕ} 0 1 = cc in omega arith)
+snoc-eq (y ∷ []) [] r q e = absurd (let z : _≡_ {A = ℕ} 0 1 = cc in omega arith)
+snoc-eq (y ∷ x ∷ rs) [] r q e = absurd (let z : _≡_ {A = ℕ} 0 1 = cc in omega arith)
+snoc-eq (x ∷ rs) (y ∷ qs) r q e =
+    let h : x ≡ y = cc in
+    let k : rs ++ (r ∷ []) ≡ qs ++ (q ∷ []) = cc in
+    ap (behind-rule x) (snoc-eq rs qs r q k) ∙ ap (λ (z : RuleTree). behind-rule z (Parted qs q)) h
+  where
+    behind-rule : RuleTree → PackTree → PackTree
+    behind-rule z (Parted ts t) = Parted (z ∷ ts) t
+
+pub one-tree : (s : Text) (p q : PackTree) → Pack s p → Pack s q → p ≡ q
+one-tree s (Parted rs r) (Parted qs q) x y =
+    let k = sym (pack-halts s (Parted rs r) (x .right) (x .tokens-are)) ∙ pack-halts s (Parted qs q) (y .right) (y .tokens-are) in
+    snoc-eq rs qs r q (trees-eq k)
+
+-- ---- 22 to 26: the earliest of those that fall, then the lowest
 
 pub fault-none : (n a : ℕ) → faultAt n a ≡ None → n ≡ 0
 fault-none n a e = go (eqb n 0) refl e
@@ -207,76 +220,6 @@ fault-none n a e = go (eqb n 0) refl e
     go : (b : Bool) → eqb n 0 ≡ b → (if b then None else At n a) ≡ None → n ≡ 0
     go true k e = eqb-true n 0 k
     go false k e = absurd (let z : _≡_ {A = ℕ} 0 1 = cc in omega arith)
-
-none-found : {A : Type 0} (n a : ℕ) → None ≡ At n a → A
-none-found n a e = absurd (let z : _≡_ {A = ℕ} 0 1 = cc in omega arith)
-
-first-of : (p : Far) (ts : List Token) (n a : ℕ) → faults p ts ≡ At n a → First p ts n a
-first-of p [] n a e = none-found n a e
-first-of p (t ∷ ts) n a e = go (eqb (faultOn p (t .text)) 0) refl e (first-of (onward p (t .text)) ts n a)
-  where
-    go : (b : Bool) → eqb (faultOn p (t .text)) 0 ≡ b
-        → orElse (if b then None else At (faultOn p (t .text)) (t .at)) (faults (onward p (t .text)) ts) ≡ At n a
-        → (faults (onward p (t .text)) ts ≡ At n a → First (onward p (t .text)) ts n a) → First p (t ∷ ts) n a
-    go true k e f =
-        let w = f e in
-        record {
-          before = t ∷ w .before;
-          token = w .token;
-          after = w .after;
-          is = ap (λ (l : List Token). t ∷ l) (w .is);
-          place = w .place;
-          clean = rw k (w .clean);
-          here = w .here;
-        }
-    go false k e f = record { before = []; token = t; after = ts; is = refl; place = cc; clean = refl; here = cc }
-
-found : (p : Far) (before : List Token) (t : Token) (after : List Token) (n : ℕ) → (n ≡ 0 → ⊥) → faults p before ≡ None
-    → faultOn (far p (texts before)) (t .text) ≡ n → faults p (before ++ (t ∷ after)) ≡ At n (t .at)
-found p [] t after n z c h =
-    let k : eqb (faultOn p (t .text)) 0 ≡ false = ne-eqb (faultOn p (t .text)) 0 (λ e. z (sym h ∙ e)) in
-    rw k (ap (λ (m : ℕ). At m (t .at)) h)
-found p (b ∷ before) t after n z c h =
-    let m = faultAt (faultOn p (b .text)) (b .at) in
-    let k = or-0 m (faults (onward p (b .text)) before) c in
-    ap (λ (f : Fault). orElse f (faults (onward p (b .text)) (before ++ (t ∷ after)))) k
-    ∙ found (onward p (b .text)) before t after n z (or-1 m (faults (onward p (b .text)) before) c) h
-
--- a fault's number is 22 to 26
-abbrev InTable : ℕ → Type 0
-InTable n = (n ≡ 0 → ⊥) → (22 ≤ n) × (n ≤ 26)
-
-in-table : (n : ℕ) → 22 ≤ n → n ≤ 26 → InTable n
-in-table n a b z = (a, b)
-
-zero-table : InTable 0
-zero-table z = absurd (z refl)
-
-trouble-table : (s : State) (t : Text) → InTable (trouble s t)
-trouble-table WantsName t = choice InTable (among t keywords) (λ _. zero-table) (λ _. in-table 25 (omega arith) (omega arith))
-trouble-table (WantsColon k) t = zero-table
-trouble-table (WantsNothing k) t = zero-table
-trouble-table (WantsOperand f) t =
-    choice InTable (ltb (length (f .clauses)) maxClauses)
-    (λ _. choice InTable (ltb (length (f .relations)) maxRelations) (λ _. zero-table) (λ _. in-table 26 (omega arith) (omega arith)))
-    (λ _. in-table 26 (omega arith) (omega arith))
-trouble-table (HasOperand f o) t = zero-table
-trouble-table (WantsModulus f o) t = choice InTable (isModulus (value t)) (λ _. zero-table) (λ _. in-table 23 (omega arith) (omega arith))
-trouble-table (HasModulus f o m) t = zero-table
-trouble-table (WantsValue f h vs) t =
-    choice InTable (ltb maxValue (value t)) (λ _. in-table 22 (omega arith) (omega arith))
-    (λ _. choice InTable (ltb (length vs) maxRanges) (λ _. zero-table) (λ _. in-table 26 (omega arith) (omega arith)))
-trouble-table (HasValue f h vs a) t = zero-table
-trouble-table (WantsUpper f h vs a) t =
-    choice InTable (ltb maxValue (value t)) (λ _. in-table 22 (omega arith) (omega arith))
-    (λ _. choice InTable (ltb (value t) (value a)) (λ _. in-table 24 (omega arith) (omega arith)) (λ _. zero-table))
-trouble-table (HasUpper f h vs a b) t = zero-table
-trouble-table Dead t = zero-table
-
-fault-table : (p : Far) (t : Text) → InTable (faultOn p t)
-fault-table p t =
-    choice InTable (both (isName (p .state)) (among t (names (p .rules)))) (λ _. in-table 25 (omega arith) (omega arith))
-    (λ _. trouble-table (p .state) t)
 
 row-number : (n : ℕ) → 22 ≤ n → n ≤ 26 → packRow (rowOf n) ≡ n
 row-number n a b =
@@ -292,19 +235,6 @@ row-number n a b =
     last-one : (n ≡ 22 → ⊥) → (n ≡ 23 → ⊥) → (n ≡ 24 → ⊥) → (n ≡ 25 → ⊥) → 26 ≡ n
     last-one p q r u = omega arith
 
--- a fault that is found is not 0
-found-fault : (p : Far) (ts : List Token) (n a : ℕ) → faults p ts ≡ At n a → n ≡ 0 → ⊥
-found-fault p [] n a e z = none-found n a e
-found-fault p (t ∷ ts) n a e z = go (eqb (faultOn p (t .text)) 0) refl e (λ k. found-fault (onward p (t .text)) ts n a k z)
-  where
-    go : (b : Bool) → eqb (faultOn p (t .text)) 0 ≡ b
-        → orElse (if b then None else At (faultOn p (t .text)) (t .at)) (faults (onward p (t .text)) ts) ≡ At n a
-        → (faults (onward p (t .text)) ts ≡ At n a → ⊥) → ⊥
-    go true k e f = f e
-    go false k e f =
-        let h : faultOn p (t .text) ≡ n = cc in
-        eqb-false (faultOn p (t .text)) 0 k (h ∙ z)
-
 told-fault : (p : Parsed) (f : Fault) (n a : ℕ) → judge p f ≡ refusedAt (rowOf n) a
     → (rs : List RuleTree) × (m : ℕ) × (p ≡ Trees rs) × (f ≡ At m a) × (rowOf m ≡ rowOf n)
 told-fault (Bad b) f n a e = absurd (rows-apart n a b (sym e))
@@ -312,48 +242,37 @@ told-fault (Trees rs) None n a e = absurd (let z : _≡_ {A = ℕ} 0 1 = cc in o
 told-fault (Trees rs) (At m b) n a e = (rs, m, refl, ap (At m) (ap placeIn e), cc)
 
 -- "22 / 23 / 24 relation value above 999,999 / modulus not listed / a above b", "25 keyword unknown or repeated", "26 clause, relation or range
--- too many": in a well-formed pack, at the first token that falls under one of them, whose number is the lowest there
-pub rows-22-26 : (s : Text) (n a : ℕ) → 22 ≤ n → n ≤ 26
-    → (readPack s ≡ refusedAt (rowOf n) a) iff ((length s ≤ maxBytes) × WellFormed (texts (tokens 0 s)) × First outset (tokens 0 s) n a)
+-- too many": in a well-formed pack, the earliest that falls, and of those there the lowest
+pub rows-22-26 : (s : Text) (n a : ℕ) → 22 ≤ n → n ≤ 26 → (readPack s ≡ refusedAt (rowOf n) a) ↔ Faulty s n a
 rows-22-26 s n a lo hi = (to, from)
   where
-    ts : List Token
-    ts = tokens 0 s
+    -- a row of the table has one number
+    same-number : (p : PackTree) (m : ℕ) → Earliest (tokens 0 s) (packRows p) m a → rowOf m ≡ rowOf n → m ≡ n
+    same-number p m w k =
+        let r = falls-rows p (tokens 0 s) m a (w .falls) in
+        sym (row-number m (r .0) (r .1)) ∙ ap packRow k ∙ row-number n lo hi
 
-    same-number : (m : ℕ) → rowOf m ≡ rowOf n → faults outset (tokens 0 s) ≡ At m a → m ≡ n
-    same-number m k e =
-        let w = first-of outset (tokens 0 s) m a e in
-        let r = fault-table (far outset (texts (w .before))) (w .token .text) (λ z. found-fault outset (tokens 0 s) m a e (sym (w .here) ∙ z)) in
-        let x : (22 ≤ m) × (m ≤ 26) = rw (w .here) at r in
-        sym (row-number m (x .0) (x .1)) ∙ ap packRow k ∙ row-number n lo hi
-
-    to : readPack s ≡ refusedAt (rowOf n) a → (length s ≤ maxBytes) × WellFormed (texts (tokens 0 s)) × First outset (tokens 0 s) n a
+    to : readPack s ≡ refusedAt (rowOf n) a → Faulty s n a
     to e =
         long-other s (refusedAt (rowOf n) a) e (long-not (rowOf n) a)
         (λ h k.
         let w = told-fault (halt outset (tokens 0 s) (length s)) (faults outset (tokens 0 s)) n a k in
-        let m = same-number (w .1) (w .4) (w .3) in
-        (h, trees-formed (tokens 0 s) (length s) (w .0) (w .2), first-of outset (tokens 0 s) n a (w .3 ∙ ap (λ (j : ℕ). At j a) m)))
+        let t = trees-formed (tokens 0 s) (length s) (w .0) (w .2) in
+        let g = fault-earliest s (t .0) (t .1) (t .2) (w .1) a .0 (w .3) in
+        record {
+          tree = t .0;
+          pack = record { short = h; right = t .1; tokens-are = t .2 };
+          given = subst (λ (m : ℕ). Earliest (tokens 0 s) (packRows (t .0)) m a) (same-number (t .0) (w .1) g (w .4)) g;
+        })
 
-    from : (length s ≤ maxBytes) × WellFormed (texts (tokens 0 s)) × First outset (tokens 0 s) n a → readPack s ≡ refusedAt (rowOf n) a
+    from : Faulty s n a → readPack s ≡ refusedAt (rowOf n) a
     from w =
-        let r = formed-trees (tokens 0 s) (length s) (w .1) in
-        let f = w .2 in
-        let z : n ≡ 0 → ⊥ = λ k. omega arith in
-        let e : faults outset (tokens 0 s) ≡ At n a =
-        ap (faults outset) (f .is) ∙ found outset (f .before) (f .token) (f .after) n z (f .clean) (f .here) ∙ ap (At n) (f .place) in
-        short-told s (w .0) ∙ rw (r .1, e)
+        let p = w .pack in
+        let r = formed-trees (tokens 0 s) (length s) (w .tree, p .right, p .tokens-are) in
+        let e = fault-earliest s (w .tree) (p .right) (p .tokens-are) n a .1 (w .given) in
+        short-told s (p .short) ∙ rw (r .1, e)
 
 -- ---- rules
-
--- the tree of a pack that is read: right, of the pack's tokens, and without a fault; the rules are those it stands for
-pub record Tree (s : Text) (rs : List Rule) : Type 0 where
-  pub short : length s ≤ maxBytes
-  pub tree : PackTree
-  pub right : rightPack tree ≡ true
-  pub tokens-are : texts (tokens 0 s) ≡ ofPack tree
-  pub clean : faults outset (tokens 0 s) ≡ None
-  pub rules : rs ≡ map ruleOf (rulesOf tree)
 
 pub told-read : (p : Parsed) (f : Fault) (rs : List Rule) → judge p f ≡ Rules rs → (qs : List RuleTree) × (p ≡ Trees qs) × (f ≡ None) × (rs ≡ map ruleOf qs)
 told-read (Bad a) f rs e = absurd (let z : _≡_ {A = ℕ} 0 1 = cc in omega arith)
@@ -363,8 +282,8 @@ told-read (Trees qs) (At n a) rs e = absurd (let z : _≡_ {A = ℕ} 0 1 = cc in
 pub long-rules : (rs : List Rule) → Refused PackTooLong ≡ Rules rs → ⊥
 long-rules rs e = let z : _≡_ {A = ℕ} 0 1 = cc in omega arith
 
--- SOUND and COMPLETE, on bytes: a pack is read exactly where it is short enough and its tokens are those of a right tree without a fault
-pub read-rules : (s : Text) (rs : List Rule) → (readPack s ≡ Rules rs) iff (Tree s rs)
+-- SOUND and COMPLETE, on bytes: a pack is read exactly where it is short enough and its tokens are those of a right tree within the bounds
+pub read-rules : (s : Text) (rs : List Rule) → (readPack s ≡ Rules rs) ↔ Tree s rs
 read-rules s rs = (to, from)
   where
     to : readPack s ≡ Rules rs → Tree s rs
@@ -372,22 +291,16 @@ read-rules s rs = (to, from)
         long-other s (Rules rs) e (long-rules rs)
         (λ h k.
         let w = told-read (halt outset (tokens 0 s) (length s)) (faults outset (tokens 0 s)) rs k in
-        let n = ended outset (tokens 0 s) (length s) (w .0) (w .1) in
-        let us = texts (tokens 0 s) in
-        let f = far outset us in
-        let b = been outset [] us (whole-alive (f .state) (n .0) (n .1)) ([], refl, refl, refl) in
-        let v = told-rule (f .state) (b .0) (n .0) (n .1) (b .2) in
+        let t = trees-formed (tokens 0 s) (length s) (w .0) (w .1) in
         record {
-          short = h;
-          tree = Parted (f .rules) (n .0);
-          right = both-in (b .3) (v .1);
-          tokens-are = b .1 ∙ ap (λ (l : List Text). each ofRule semi (f .rules) ++ l) (v .0);
-          clean = w .2;
-          rules = w .3 ∙ ap (map ruleOf) (n .2);
+          tree = t .0;
+          pack = record { short = h; right = t .1; tokens-are = t .2 };
+          within = clean-reading (tokens 0 s) (t .0) (t .1) (t .2) .1 (w .2);
+          rules = w .3 ∙ ap (map ruleOf) (trees-eq (sym (w .1) ∙ pack-halts s (t .0) (t .1) (t .2)));
         })
 
     from : Tree s rs → readPack s ≡ Rules rs
     from w =
-        let c = complete-pack s (w .tree) (w .right) (ap texts (sym (tokens-whole s)) ∙ w .tokens-are) in
-        let h : halt outset (tokens 0 s) (length s) ≡ Trees (rulesOf (w .tree)) = halt-whole s ∙ ap (behind []) c in
-        short-told s (w .short) ∙ rw (h, w .clean) (ap Rules (sym (w .rules)))
+        let p = w .pack in
+        let c = clean-reading (tokens 0 s) (w .tree) (p .right) (p .tokens-are) .0 (w .within) in
+        short-told s (p .short) ∙ rw (pack-halts s (w .tree) (p .right) (p .tokens-are), c) (ap Rules (sym (w .rules)))

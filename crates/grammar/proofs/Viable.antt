@@ -12,6 +12,7 @@ use Rattle.decimal.specs.Choice.{if_then_else_}
 use Rattle.token.specs.Spelling.{same}
 use Rattle.grammar.specs.Grammar.{Text, all, colon, semi, equal, other, RuleTree, PackTree, each, ofRule, rightRule, ofPack, rightPack}
 use Rattle.token.specs.Token.{Token, tokensFor, tokens, pieceLen, isWhite}
+use Rattle.grammar.specs.WellFormed.{texts, WellFormed, Begins, Culprit, Unfinished}
 use Rattle.grammar.specs.Grammar.PackTree.{Parted}
 use Rattle.grammar.specs.Steps.{State, step, steps, Read, ends}
 use Rattle.grammar.specs.Steps.State.{WantsName, WantsColon, WantsNothing, WantsOperand, HasOperand, WantsModulus, HasModulus, WantsValue, HasValue, WantsUpper, HasUpper, Dead}
@@ -23,7 +24,7 @@ use Rattle.token.proofs.Spellings.{both-0, both-1, both-in, same-eq}
 use Rattle.grammar.proofs.Laws.{no-way, each-snoc, all-snoc}
 use Rattle.grammar.proofs.Sound.{Reached, reaches, arrives, told-rule}
 use Rattle.grammar.proofs.Complete.{complete}
-use Rattle.grammar.proofs.Places.{texts, dead-stays, dead-is}
+use Rattle.grammar.proofs.Places.{dead-stays, dead-is}
 
 -- A whole pack read token by token: the rules that are whole, and the state in the one being read.
 pub record Far : Type 0 where
@@ -141,13 +142,6 @@ can-end Dead e = no-way e
 some-rule : (x : Read) → isWhole x ≡ true → (r : RuleTree) × (x ≡ Whole r)
 some-rule (Whole r) e = (r, refl)
 some-rule Cut e = no-way (sym e)
-
--- a well-formed pack begins with these tokens
-abbrev pub WellFormed : List Text → Type 0
-WellFormed us = (p : PackTree) × (rightPack p ≡ true) × (us ≡ ofPack p)
-
-abbrev pub Begins : List Text → Type 0
-Begins us = (rest : List Text) × WellFormed (us ++ rest)
 
 -- tokens that are read and leave the state alive, and what ends the rule being read, are a well-formed pack
 pub viable-by : (us : List Text) → isDead (far outset us .state) ≡ false → WellFormed (us ++ ending (far outset us .state))
@@ -395,22 +389,6 @@ same-halt d at x (y ∷ ys) g =
     go : (s : Stop) → ((r : RuleTree) → halt (record { rules = d ++ (r ∷ []); state = WantsName }) us end ≡ behind (d ++ (r ∷ [])) tail) → goesOn d us end s ≡ behind d (andThen s tail)
     go (Fine r) h = h r ∙ more r tail
     go (Stuck a) h = refl
-
--- 21, at a token: no well-formed pack begins with the tokens up to and including it, and some does with those before it
-pub record Culprit (ts : List Token) (a : ℕ) : Type 0 where
-  pub before : List Token
-  pub token : Token
-  pub after : List Token
-  pub is : ts ≡ before ++ (token ∷ after)
-  pub place : token .at ≡ a
-  pub some : Begins (texts before)
-  pub none : Begins (texts before ++ (token .text ∷ [])) → ⊥
-
--- 21, at the end: the tokens are no well-formed pack, and some well-formed pack begins with them
-pub record Unfinished (ts : List Token) (end a : ℕ) : Type 0 where
-  pub place : a ≡ end
-  pub some : Begins (texts ts)
-  pub none : WellFormed (texts ts) → ⊥
 
 pub first-wrong : (x : Text) (xs : List Text) (a : ℕ) → all plain (x ∷ xs) ≡ true → rulesFrom 0 (x ∷ xs) ≡ Bad a
     → Culprit (packTokens 0 x xs) a ⊎ Unfinished (packTokens 0 x xs) (packEnd 0 x xs) a

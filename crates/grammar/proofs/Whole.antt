@@ -2,7 +2,7 @@
 use mathlib.Core.Path.{_≡_, refl, sym, ap, _∙_}
 use mathlib.Core.Bool.{Bool, true, false, not}
 use mathlib.Core.List.{List, [], _∷_, _++_, append-nil}
-use Prim.Native.Nat.{ℕ, zero, suc, _+_, _-_, _≤_}
+use Prim.Native.Nat.{ℕ, zero, suc, _+_, _≤_}
 use native.Mathlib.Omega.{arith}
 use lib.Dec.{eqb, ltb}
 use lib.ListN.{length, take, drop, length-drop}
@@ -17,10 +17,11 @@ use Rattle.token.specs.Token.{whites, whiteLen, isWhite, isLetter, letters, dot
 use Rattle.token.proofs.Spellings.{both-0, both-1}
 use Rattle.token.proofs.Pieces.{piece, pieced, tokens-turn}
 use Rattle.grammar.specs.Limits.{maxBytes}
-use Rattle.grammar.specs.Grammar.{Text, all, semi, colon, comma, percent, equal, and, or, other, isWord, isNumber, isOperand, RangeTree, HeadTree, RuleTree, ofRule}
+use Rattle.grammar.specs.Grammar.{Text, all, semi, colon, comma, percent, equal, and, or, other, isWord, isNumber, isOperand, RangeTree, HeadTree, RuleTree, nameOf, ofRule}
 use Rattle.grammar.specs.Grammar.RangeTree.{One, Span}
 use Rattle.grammar.specs.Grammar.HeadTree.{Plain, Modulo}
 use Rattle.grammar.specs.Grammar.RuleTree.{Bare, Named}
+use Rattle.grammar.specs.WellFormed.{texts}
 use Rattle.grammar.specs.Steps.{Front, State, goOn, signed, step, steps, Read, ends}
 use Rattle.grammar.specs.Steps.State.{WantsName, WantsColon, WantsNothing, WantsOperand, HasOperand, WantsModulus, HasModulus, WantsValue, HasValue, WantsUpper, HasUpper, Dead}
 use Rattle.grammar.specs.Steps.Read.{Whole}
@@ -30,7 +31,7 @@ use Rattle.grammar.specs.Reader.Fault.{None, At}
 use Rattle.grammar.specs.Reader.PackAnswer.{Refused}
 use Rattle.answer.specs.declared.Refusal.the-variants.{PackTooLong}
 use Rattle.grammar.proofs.Sound.{sound}
-use Rattle.grammar.proofs.Places.{texts, fine-whole}
+use Rattle.grammar.proofs.Places.{fine-whole}
 use Rattle.grammar.proofs.Shuffle.{then-fine}
 use Rattle.grammar.proofs.Viable.{plain, plain-segments, some-segments, firstOf, othersOf, packTokens, packEnd, tokensOf, end-is, Far, closed, onward, outset, halt, behind, same-halt, noSemi, no-semi}
 
@@ -140,10 +141,6 @@ tokens-whole s = ap (tokens 0) (sym (joined-segments s)) ∙ tokens-joined 0 (fi
 
 -- ---- faults, token by token
 
-abbrev pub nameOf : RuleTree → Text
-nameOf (Bare k) = k
-nameOf (Named k cs c) = k
-
 abbrev pub names : List RuleTree → List Text
 names [] = []
 names (r ∷ rs) = nameOf r ∷ names rs
@@ -185,7 +182,7 @@ go-step : (f : Front) (h : HeadTree) (vs : List RangeTree) (v : RangeTree) (t : 
 go-step f h vs v t =
     choice P (same t comma) (λ _. refl) (λ _. choice P (same t and) (λ _. refl) (λ _. choice P (same t or) (λ _. refl) (λ _. refl)))
 
-name-step : (s : State) (t : Text) → isName (step s t) ≡ false
+pub name-step : (s : State) (t : Text) → isName (step s t) ≡ false
 name-step WantsName t = choice P (isWord t) (λ _. refl) (λ _. refl)
 name-step (WantsColon k) t = choice P (same t colon) (λ _. choice P (same k other) (λ _. refl) (λ _. refl)) (λ _. refl)
 name-step (WantsNothing k) t = refl
@@ -269,6 +266,11 @@ pub names-snoc : (d : List RuleTree) (r : RuleTree) → names (d ++ (r ∷ [])) 
 names-snoc [] r = refl
 names-snoc (q ∷ d) r = ap (λ (l : List Text). nameOf q ∷ l) (names-snoc d r)
 
+-- the keywords before a rule, and its own
+pub one-more : (used : List Text) (d : List RuleTree) (r : RuleTree) → ((t : Text) → among t used ≡ among t (names d))
+    → (t : Text) → among t (nameOf r ∷ used) ≡ among t (names (d ++ (r ∷ [])))
+one-more used d r h t = rw (names-snoc d r, among-last t (nameOf r) (names d), h t)
+
 -- of segments that are rules: their faults are those of the whole pack's tokens
 faults-whole : (used : List Text) (d : List RuleTree) (at : ℕ) (x : Text) (xs : List Text) (rs : List RuleTree) → all plain (x ∷ xs) ≡ true
     → ((t : Text) → among t used ≡ among t (names d)) → rulesFrom at (x ∷ xs) ≡ Trees rs
@@ -286,8 +288,7 @@ faults-whole used d at x (y ∷ ys) rs g h e =
     let s = sound (texts ts) r w in
     let k = name-is ts r (s .0) in
     let us = packTokens (suc (at + length x)) y ys in
-    let u : (t : Text) → among t (keywordIn ts ∷ used) ≡ among t (names (d ++ (r ∷ []))) =
-    λ t. rw (k, names-snoc d r, among-last t (nameOf r) (names d), h t) in
+    let u : (t : Text) → among t (keywordIn ts ∷ used) ≡ among t (names (d ++ (r ∷ []))) = λ t. rw k (one-more used d r h t) in
     let ih = faults-whole (keywordIn ts ∷ used) (d ++ (r ∷ [])) (suc (at + length x)) y ys (a .1) (both-1 (plain x) (all plain (y ∷ ys)) g) u (a .3) in
     sym (segment-faults used d ts (record { at = at + length x; text = semi } ∷ us) n h
     ∙ ap (λ (z : Fault). orElse (again used ts) (orElse (faultIn WantsName ts) z))

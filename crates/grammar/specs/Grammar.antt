@@ -85,6 +85,14 @@ pub data RuleTree : Type 0 where
 pub data PackTree : Type 0 where
   Parted : List RuleTree → RuleTree → PackTree
 
+abbrev pub nameOf : RuleTree → Text
+nameOf (Bare k) = k
+nameOf (Named k cs c) = k
+
+-- the rules of a pack, in their order
+abbrev pub rulesOf : PackTree → List RuleTree
+rulesOf (Parted rs r) = rs ++ (r ∷ [])
+
 -- ---- the tokens of a tree
 
 -- every one written, and `sep` after it

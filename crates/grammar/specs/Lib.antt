@@ -1,5 +1,9 @@
 pub mod Limits
 pub mod Grammar
 pub mod RuleOf
+pub mod WellFormed
+pub mod Within
+pub mod Falls
 pub mod Steps
+pub mod Segment
 pub mod Reader

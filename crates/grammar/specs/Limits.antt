@@ -1,8 +1,11 @@
 -- The bounds of a pack, each stated once.
 use mathlib.Core.Bool.{Bool, true}
+use mathlib.Core.List.{List, [], _∷_}
 use Prim.Native.Nat.{ℕ}
 use lib.Dec.{eqb}
 use Rattle.decimal.specs.Choice.{if_then_else_}
+use Rattle.answer.specs.Words.{spelling}
+use Rattle.answer.specs.declared.Keyword.the-variants.{Zero, One, Two, Few, Many, Other}
 
 -- 20: "pack over 4,096 bytes"
 abbrev pub maxBytes : ℕ
@@ -31,3 +34,7 @@ isModulus m =
     if eqb m 10000 then true else
     if eqb m 100000 then true else
     eqb m 1000000
+
+-- "Keywords: zero, one, two, few, many, other"
+abbrev pub keywords : List (List ℕ)
+keywords = spelling Zero ∷ spelling One ∷ spelling Two ∷ spelling Few ∷ spelling Many ∷ spelling Other ∷ []

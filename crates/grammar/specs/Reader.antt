@@ -7,8 +7,6 @@ use lib.ListN.{length}
 use Rattle.decimal.specs.Choice.{if_then_else_}
 use Rattle.decimal.specs.Digits.{value}
 use Rattle.decimal.specs.Split.{split}
-use Rattle.answer.specs.Words.{spelling}
-use Rattle.answer.specs.declared.Keyword.the-variants.{Zero, One, Two, Few, Many, Other}
 use Rattle.answer.specs.declared.PackRow.{PackRow}
 use Rattle.answer.specs.declared.PackRow.the-variants.{NotAPack, ValueTooLarge, UnlistedModulus, RangeReversed, BadKeyword, TooMany}
 use Rattle.answer.specs.declared.Refusal.{Refusal}
@@ -16,7 +14,7 @@ use Rattle.answer.specs.declared.Refusal.the-variants.{PackTooLong, Pack}
 use Rattle.rules.specs.Syntax.{Rule}
 use Rattle.token.specs.Spelling.{among}
 use Rattle.token.specs.Token.{Token, tokens}
-use Rattle.grammar.specs.Limits.{maxBytes, maxClauses, maxRelations, maxRanges, maxValue, isModulus}
+use Rattle.grammar.specs.Limits.{maxBytes, maxClauses, maxRelations, maxRanges, maxValue, isModulus, keywords}
 use Rattle.grammar.specs.Grammar.{Text, RuleTree}
 use Rattle.grammar.specs.RuleOf.{ruleOf}
 use Rattle.grammar.specs.Steps.{State, step, Read, ends}
@@ -74,10 +72,6 @@ rulesFrom at [] = Trees []
 rulesFrom at (x ∷ xs) = andThen (stop WantsName (tokens at x) (at + length x)) (rulesFrom (suc (at + length x)) xs)
 
 -- ---- 22 to 26
-
--- "Keywords: zero, one, two, few, many, other"
-abbrev pub keywords : List Text
-keywords = spelling Zero ∷ spelling One ∷ spelling Two ∷ spelling Few ∷ spelling Many ∷ spelling Other ∷ []
 
 -- The number of the row that a token which may stand there falls under, the lowest first, else 0: 22 "relation value above 999,999", 23 "modulus
 -- not listed", 24 "a above b", 25 "keyword unknown", 26 "clause, relation or range too many". A repeated keyword: `again`, below.

@@ -8,6 +8,7 @@ use lib.Dec.{eqb}
 use lib.ListN.{length, replicate, length-replicate}
 use Rattle.rules.specs.Syntax.{Range, Relation, Rule}
 use Rattle.token.specs.Token.{tokens}
+use Rattle.token.proofs.Pieces.{placed}
 use Rattle.grammar.specs.Limits.{maxBytes}
 use Rattle.grammar.specs.Grammar.{Text, RuleTree, semi}
 use Rattle.grammar.specs.Grammar.RuleTree.{Bare, Named}
@@ -18,7 +19,7 @@ use Rattle.grammar.specs.Steps.Read.{Whole, Cut}
 use Rattle.grammar.specs.Reader.{readPack, orElse, faultAt}
 use Rattle.grammar.specs.Reader.Fault.{None}
 use Rattle.grammar.specs.Reader.PackAnswer.{Rules}
-use Rattle.grammar.proofs.Places.{texts}
+use Rattle.grammar.specs.WellFormed.{texts}
 use Rattle.grammar.proofs.Viable.{far, outset, closed, halt}
 use Rattle.grammar.specs.Reader.Parsed.{Trees}
 use Rattle.phase.specs.Next.{phaseNumber}
@@ -34,7 +35,7 @@ use Rattle.pack.specs.Board.{Arrays, arraysOf, Sized, boards, startWalk,
 use Rattle.pack.specs.Bounds.{flat, conditioned, clausesOf, relationsOf, rangesOf, Bounds}
 use Rattle.pack.proofs.Tally.{tally-most}
 use Rattle.pack.proofs.Holds.{HoldsAt, Base, Ds, Cs, Rs, Gs, numbers, numbers-length, none, conditions, closedClauses}
-use Rattle.pack.proofs.Sims.{start, placed, sims, sim-step}
+use Rattle.pack.proofs.Sims.{start, sims, sim-step}
 
 conditioned-is : (d : List RuleTree) → conditioned (Ds d) ≡ conditions d
 conditioned-is [] = refl

@@ -10,7 +10,7 @@ use Rattle.rules.specs.Syntax.{Range, Relation, Rule}
 use Rattle.rules.specs.Held.{keywordOf}
 use Rattle.token.specs.Spelling.{same}
 use Rattle.grammar.specs.Limits.{maxBytes}
-use Rattle.grammar.specs.Grammar.{Text, other, RangeTree, HeadTree, RelationTree, ClauseTree, RuleTree}
+use Rattle.grammar.specs.Grammar.{Text, other, RangeTree, HeadTree, RelationTree, ClauseTree, RuleTree, nameOf}
 use Rattle.grammar.specs.Grammar.RangeTree.{One, Span}
 use Rattle.grammar.specs.Grammar.RelationTree.{Rel}
 use Rattle.grammar.specs.Grammar.ClauseTree.{Joined}
@@ -18,7 +18,7 @@ use Rattle.grammar.specs.Grammar.RuleTree.{Bare, Named}
 use Rattle.grammar.specs.RuleOf.{rangeOf, relationOf, clauseOf, ruleOf, keywordOf as keywordNamed}
 use Rattle.grammar.specs.Steps.{Front, State}
 use Rattle.grammar.specs.Steps.State.{WantsName, WantsColon, WantsNothing, WantsOperand, HasOperand, WantsModulus, HasModulus, WantsValue, HasValue, WantsUpper, HasUpper, Dead}
-use Rattle.grammar.proofs.Whole.{nameOf, names, names-snoc}
+use Rattle.grammar.proofs.Whole.{names, names-snoc}
 use Rattle.walk.specs.Steps.{keywordNumber, held, moreOf, countsAfter}
 use Rattle.walk.specs.declared.Closes.{Closes}
 use Rattle.walk.specs.declared.Counts.{Counts}

@@ -2,19 +2,19 @@
 use mathlib.Core.Path.{_≡_, refl, sym, ap, _∙_, subst}
 use mathlib.Core.Bool.{Bool, true, false}
 use mathlib.Core.List.{List, [], _∷_, _++_, map, append-nil}
-use Prim.Native.Nat.{ℕ, zero, suc, _+_, _≤_, _<_}
+use Prim.Native.Nat.{ℕ, suc, _≤_}
 use native.Mathlib.Omega.{arith}
 use lib.Dec.{eqb, ltb}
-use lib.ListN.{length, take, drop, length-drop}
-use borrow.Author.Tests.{eqb-false, ltb-false, le-ltb}
+use lib.ListN.{length}
+use borrow.Author.Tests.{ltb-false, le-ltb}
 use Rattle.decimal.specs.Choice.{if_then_else_}
 use Rattle.decimal.proofs.Choices.{choice, tested, not-both}
 use Rattle.rules.specs.Syntax.{Relation}
 use Rattle.rules.specs.Held.{heldRules}
 use Rattle.rules.specs.declared.Pack.{Pack}
 use Rattle.token.specs.Spelling.{same}
-use Rattle.token.specs.Token.{pieceLen, isWhite, dots, differ, Token, tokensFor, tokens}
-use Rattle.token.proofs.Pieces.{piece}
+use Rattle.token.specs.Token.{dots, differ, Token, tokens}
+use Rattle.token.proofs.Pieces.{Placed, placed-le, placed}
 use Rattle.grammar.specs.Limits.{maxBytes}
 use Rattle.grammar.specs.Grammar.{Text, RuleTree, RangeTree, HeadTree, semi, colon, comma, percent, equal, and, or, other, isWord, isNumber, isOperand}
 use Rattle.grammar.specs.Grammar.RangeTree.{One, Span}
@@ -31,7 +31,8 @@ use Rattle.answer.specs.Table.{packRow}
 use Rattle.answer.specs.declared.PackRow.{PackRow}
 use Rattle.answer.specs.declared.PackRow.the-variants.{NotAPack, ValueTooLarge, UnlistedModulus, RangeReversed, BadKeyword, TooMany}
 use Rattle.answer.specs.declared.Refusal.the-variants.{PackTooLong, Pack as OfPack}
-use Rattle.grammar.proofs.Places.{texts, or-0, or-1}
+use Rattle.grammar.specs.WellFormed.{texts}
+use Rattle.grammar.proofs.Places.{or-0, or-1}
 use Rattle.grammar.proofs.Viable.{Far, closed, onward, far, outset, halt, last}
 use Rattle.grammar.proofs.Exact.{ended}
 use Rattle.grammar.proofs.Whole.{faultOn, faults, goes-on, whole-clean, read-whole}
@@ -134,35 +135,6 @@ sim-step b p f at q t h l k =
     (sim-at p (w .counts) (w .current) (w .mark) (b .arrays) f at q t (h .flag) (h .fault) (h .holds) l k)
 
 -- ---- all tokens, each behind the one before
-
-abbrev pub Placed : ℕ → List Token → ℕ → Type 0
-Placed a [] end = a ≤ end
-Placed a (t ∷ ts) end = (a ≤ t .at) × Placed (suc (t .at)) ts end
-
-placed-from : (a b : ℕ) (ts : List Token) (end : ℕ) → a ≤ b → Placed b ts end → Placed a ts end
-placed-from a b [] end l h = omega arith
-placed-from a b (t ∷ ts) end l h = (omega (arith, h .0), h .1)
-
-placed-le : (a : ℕ) (ts : List Token) (end : ℕ) → Placed a ts end → a ≤ end
-placed-le a [] end h = h
-placed-le a (t ∷ ts) end h = omega (arith, h .0, placed-le (suc (t .at)) ts end (h .1))
-
-pub placed : (k a : ℕ) (s : Text) (end : ℕ) → a + length s ≡ end → Placed a (tokensFor k a s) end
-placed zero a s end e = omega arith
-placed (suc k) a s end e =
-    go (eqb (length s) 0) refl (isWhite s) (tokensFor k (a + pieceLen s) (drop (pieceLen s) s))
-    (λ h. let p = piece s h in placed k (a + pieceLen s) (drop (pieceLen s) s) end (omega (arith, length-drop (pieceLen s) s, p .1)))
-  where
-    some : (n : ℕ) → (n ≡ 0 → ⊥) → 0 < n
-    some n f = omega arith
-
-    go : (x : Bool) → eqb (length s) 0 ≡ x → (y : Bool) (ts : List Token) → (0 < length s → Placed (a + pieceLen s) ts end)
-        → Placed a (if x then [] else if y then ts else record { at = a; text = take (pieceLen s) s } ∷ ts) end
-    go true q y ts f = omega arith
-    go false q true ts f = placed-from a (a + pieceLen s) ts end (omega arith) (f (some (length s) (eqb-false (length s) 0 q)))
-    go false q false ts f =
-        let l = some (length s) (eqb-false (length s) 0 q) in
-        (omega arith, placed-from (suc a) (a + pieceLen s) ts end (omega (arith, piece s l .0)) (f l))
 
 or-none : (f : Fault) → orElse f None ≡ f
 or-none None = refl

@@ -15,7 +15,7 @@ use Rattle.rules.specs.Held.{keywordOf}
 use Rattle.token.specs.Spelling.{same, among}
 use Rattle.token.proofs.Spellings.{same-eq, same-refl}
 use Rattle.grammar.specs.Grammar.{Text, other}
-use Rattle.grammar.specs.Reader.{keywords}
+use Rattle.grammar.specs.Limits.{keywords}
 use Rattle.grammar.specs.RuleOf.{keywordOf as keywordNamed}
 use Rattle.walk.specs.Steps.{keywordNumber, held, nameRow}
 

@@ -1,4 +1,4 @@
--- Laws of pieces, white space or tokens: each has a byte and ends within the text; a text's tokens, piece by piece.
+-- Laws of pieces, white space or tokens: each has a byte and ends within the text; a text's tokens, piece by piece, and their places, which rise.
 use mathlib.Core.Path.{_≡_, refl, sym, ap, _∙_}
 use mathlib.Core.Bool.{Bool, true, false}
 use mathlib.Core.List.{List, [], _∷_}
@@ -110,6 +110,9 @@ no-tokens (suc k) a s e = rw (eq-eqb (length s) 0 e)
 abbrev pub pieced : Bool → ℕ → List ℕ → List Token → List Token
 pieced w a u l = if w then l else record { at = a; text = u } ∷ l
 
+some : (n : ℕ) → (n ≡ 0 → ⊥) → 0 < n
+some n f = omega arith
+
 -- more pieces than enough make no difference
 enough : (f g a : ℕ) (s : List ℕ) → length s ≤ f → length s ≤ g → tokensFor f a s ≡ tokensFor g a s
 enough zero g a s hf hg = sym (no-tokens g a s (omega arith))
@@ -119,9 +122,6 @@ enough (suc f) (suc g) a s hf hg =
     (λ h. let p = piece s h in
     enough f g (a + pieceLen s) (drop (pieceLen s) s) (omega (arith, length-drop (pieceLen s) s, p .0)) (omega (arith, length-drop (pieceLen s) s, p .0)))
   where
-    some : (a : ℕ) → (a ≡ 0 → ⊥) → 0 < a
-    some a f = omega arith
-
     go : (x : Bool) → eqb (length s) 0 ≡ x → {y z : List Token} → (0 < length s → y ≡ z)
         → (if x then [] else pieced (isWhite s) a (take (pieceLen s) s) y) ≡ (if x then [] else pieced (isWhite s) a (take (pieceLen s) s) z)
     go true e h = refl
@@ -137,3 +137,31 @@ tokens-turn a s h =
     ap (λ (n : ℕ). tokensFor n a s) j
     ∙ rw (ne-eqb (length s) 0 z)
     (ap (pieced (isWhite s) a (take k s)) (enough (length s - 1) (length (drop k s)) (a + k) (drop k s) (omega (arith, length-drop k s, p .0)) (omega arith)))
+
+-- ---- the places of a text's tokens: each behind the one before, from a place to an end
+
+abbrev pub Placed : ℕ → List Token → ℕ → Type 0
+Placed a [] end = a ≤ end
+Placed a (t ∷ ts) end = (a ≤ t .at) × Placed (suc (t .at)) ts end
+
+placed-from : (a b : ℕ) (ts : List Token) (end : ℕ) → a ≤ b → Placed b ts end → Placed a ts end
+placed-from a b [] end l h = omega arith
+placed-from a b (t ∷ ts) end l h = (omega (arith, h .0), h .1)
+
+pub placed-le : (a : ℕ) (ts : List Token) (end : ℕ) → Placed a ts end → a ≤ end
+placed-le a [] end h = h
+placed-le a (t ∷ ts) end h = omega (arith, h .0, placed-le (suc (t .at)) ts end (h .1))
+
+pub placed : (k a : ℕ) (s : List ℕ) (end : ℕ) → a + length s ≡ end → Placed a (tokensFor k a s) end
+placed zero a s end e = omega arith
+placed (suc k) a s end e =
+    go (eqb (length s) 0) refl (isWhite s) (tokensFor k (a + pieceLen s) (drop (pieceLen s) s))
+    (λ h. let p = piece s h in placed k (a + pieceLen s) (drop (pieceLen s) s) end (omega (arith, length-drop (pieceLen s) s, p .1)))
+  where
+    go : (x : Bool) → eqb (length s) 0 ≡ x → (y : Bool) (ts : List Token) → (0 < length s → Placed (a + pieceLen s) ts end)
+        → Placed a (if x then [] else if y then ts else record { at = a; text = take (pieceLen s) s } ∷ ts) end
+    go true q y ts f = omega arith
+    go false q true ts f = placed-from a (a + pieceLen s) ts end (omega arith) (f (some (length s) (eqb-false (length s) 0 q)))
+    go false q false ts f =
+        let l = some (length s) (eqb-false (length s) 0 q) in
+        (omega arith, placed-from (suc a) (a + pieceLen s) ts end (omega (arith, piece s l .0)) (f l))
