@@ -102,6 +102,7 @@ one-grounds s w =
     let m = alone-meant s w in
     let e : endOf h ≡ length s = ap (λ (l : List ℕ). endOf (halfOf l)) (sym (append-nil s)) ∙ read-end s [] w refl in
     let k = eq-eqb (endOf h) (length s) e in
+    let same : sameMarks h h ≡ true = rw (eq-eqb (h .percents) (h .percents) refl, eq-eqb (h .permilles) (h .permilles) refl) in
     record {
       first = h;
       second = h;
@@ -110,7 +111,7 @@ one-grounds s w =
       places = twice-told (places-told w h m);
       step = twice-told (step-told w h m);
       marks = twice-told (marks-told w h m);
-      other = record { yes = λ y. not-both (rw (eq-eqb (h .percents) (h .percents) refl, eq-eqb (h .permilles) (h .permilles) refl)) (not-holds (sameMarks h h) y); no = λ _ o. o };
+      other = record { yes = λ y. not-both same (not-holds (sameMarks h h) y); no = λ _ o. o };
       is = λ y. pattern-meant w h m (either-false (manyMarks h) (manyMarks h) y .0) MinusSymbol;
     }
 
