@@ -284,10 +284,10 @@ pattern-row (not-utf8 h u) = inr (omega arith, omega arith)
 pattern-row (reserved h u a) = inr (omega arith, omega arith)
 pattern-row (not-a-pattern p f) = inr (omega arith, omega arith)
 pattern-row (many-places p w e) = inr (omega arith, omega arith)
-pattern-row (large-step p w e f) = inr (omega arith, omega arith)
-pattern-row (many-marks p w e f g) = inr (omega arith, omega arith)
-pattern-row (other-marks p w e f g h) = inr (omega arith, omega arith)
-pattern-row (read-pattern p w e f g h) = inl refl
+pattern-row (large-step w p e) = inr (omega arith, omega arith)
+pattern-row (many-marks w p e) = inr (omega arith, omega arith)
+pattern-row (other-marks w p e) = inr (omega arith, omega arith)
+pattern-row (read-pattern w p m o) = inl refl
 
 of-pattern : {s : List ℕ} {r : Refusal} → PatternVerdict s (PatternRefused r) → Within 30 36 (numberOf r)
 of-pattern {s} {r} v = not-zero r (pattern-row v)

@@ -1,35 +1,34 @@
 -- What is read of a pattern keeps its bounds: step, digits and group sizes.
 use mathlib.Core.Path.{_≡_, refl, sym, subst, _∙_}
-use mathlib.Core.Bool.{true, false}
-use mathlib.Core.List.{List, [], _∷_}
+use mathlib.Core.Bool.{false}
+use mathlib.Core.List.{List, [], _∷_, _++_, map}
+use mathlib.Core.Logic.{inl, inr}
 use Prim.Native.Nat.{ℕ, zero, suc, _+_, _-_, _≤_, _<_}
 use native.Mathlib.Omega.{arith}
 use borrow.Author.Tests.{eqb-true, eqb-false, ltb-true, ltb-false}
 use lib.Dec.{eqb, ltb}
 use lib.ListN.{length, getD, take}
 use lib.Seq.{getD-take, length-take-le}
-use Rattle.decimal.specs.Choice.{both}
-use Rattle.decimal.proofs.Choices.{tested, not-both}
-use Rattle.utf8.proofs.Lower.{either-false}
-use Rattle.numberpart.specs.Shape.{wholeOf, fractionOf, between, count, digits, last, primaryOf, front, secondaryOf, unitsFrom, stepOf}
+use Rattle.decimal.specs.Digits.{value}
+use Rattle.decimal.proofs.Choices.{choice, tested}
+use Rattle.lexer.specs.declared.Mark.the-variants.{Percent, Permille}
+use Rattle.numberpart.specs.Shape.{between, count, digits, last, primaryOf, front, secondaryOf}
 use Rattle.pattern.specs.Limits.{maxWhole, maxFraction, maxStep}
+use Rattle.pattern.specs.declared.Negative.{Negative}
+use Rattle.pattern.specs.declared.Negative.the-variants.{MinusSymbol}
 use Rattle.pattern.specs.declared.Pattern.{Pattern}
-use Rattle.pattern.specs.declared.PatternReading.{PatternReading}
 use Rattle.pattern.specs.declared.PatternReading.the-variants.{Is}
-use Rattle.pattern.specs.Reading.{halfOf, manyPlaces, stepOver, numberOf, patternOf, readPattern}
-use Rattle.pattern_grammar.specs.NumberPart.{IsWhole}
+use Rattle.pattern.specs.Reading.{readPattern}
+use Rattle.pattern_grammar.specs.NumberPart.{dropCommas, IsWhole, IsPart}
+use Rattle.pattern_grammar.specs.Grammar.{IsSub, IsPattern, one, two}
+use Rattle.pattern_grammar.specs.Meaning.{asZero, stepIn, marksIn, factorIn, ManyPlaces, StepOver, asked, ownIn, patternIn}
 use Rattle.pattern_grammar.specs.Bounds.{Bounds}
-use Rattle.pattern_grammar.specs.Verdict.{wellFormed, secondHalf, negativeOf, Verdict, too-long, not-utf8, reserved, not-a-pattern, many-places, large-step, many-marks, other-marks, read}
-use Rattle.pattern_grammar.proofs.Parts.{whole-sound, number-whole}
-use Rattle.pattern_grammar.proofs.Subpatterns.{pattern-complete, first-fits}
-use Rattle.pattern_grammar.proofs.Verdicts.{verdict-found, not-read}
+use Rattle.pattern_grammar.specs.Verdict.{Past35}
+use Rattle.pattern_grammar.proofs.Numbers.{between-is, places-left}
+use Rattle.pattern_grammar.proofs.Meanings.{no-more}
+use Rattle.pattern_grammar.proofs.Texts.{read-plain, read-asks}
 
 -- ---- counts
-
-between-is : (x b : ℕ) → between x x b ≡ true → b ≡ x
-between-is x b e =
-    tested (ltb b x) (λ k. not-both e (rw k))
-    (λ k. tested (ltb x b) (λ l. not-both e (rw (k, l))) (λ l. omega (arith, ltb-false b x k, ltb-false x b l)))
 
 -- no byte is both a digit and a comma
 digits-commas : (w : List ℕ) → digits w + count 44 44 w ≤ length w
@@ -158,8 +157,10 @@ secondary-some w p h =
 
 -- ---- the step
 
-step-some : (n : List ℕ) → 1 ≤ stepOf n
-step-some n = tested (eqb (unitsFrom 0 n) 0) (λ k. rw k (omega arith)) (λ k. rw k (positive (unitsFrom 0 n) (eqb-false (unitsFrom 0 n) 0 k)))
+step-some : {n : List ℕ} (p : IsPart n) → 1 ≤ stepIn p
+step-some p =
+    let u = value (map asZero (dropCommas (p .whole) ++ p .fraction)) in
+    tested (eqb u 0) (λ k. rw k (omega arith)) (λ k. rw k (positive u (eqb-false u 0 k)))
   where
     positive : (x : ℕ) → (x ≡ 0 → ⊥) → 1 ≤ x
     positive zero f = absurd (f refl)
@@ -167,40 +168,44 @@ step-some n = tested (eqb (unitsFrom 0 n) 0) (λ k. rw k (omega arith)) (λ k. r
 
 -- ---- a pattern that is read
 
-half-bounds : (s : List ℕ) → wellFormed s ≡ true → manyPlaces (halfOf s) ≡ false → stepOver (halfOf s) ≡ false
-    → Bounds (patternOf (halfOf s) (negativeOf s))
-half-bounds s f m o =
-    let n = numberOf s in
-    let w = wholeOf n in
-    let e = either-false (ltb maxWhole (length w - count 44 44 w)) (ltb maxFraction (length (fractionOf n))) m in
-    let places = ltb-false maxWhole (length w - count 44 44 w) (e .0) in
-    let p = whole-sound w (number-whole n (first-fits s f)) in
+asked-bounds : {a : List ℕ} (w : IsSub a) (n : Negative) → (ManyPlaces a w → ⊥) → (StepOver a w → ⊥) → Bounds (asked w n)
+asked-bounds w n m o =
+    let l = w .number-is .whole in
+    let f = w .number-is .fraction in
+    let places = no-more maxWhole (length (dropCommas l)) (λ k. m (inl k)) in
+    let c = places-left l in
     record {
-      step-least = step-some n;
-      step-most = ltb-false maxStep (stepOf n) o;
-      least-most = omega (arith, digits-commas w, places);
-      fraction-most = digits-length (fractionOf n);
-      most-most = ltb-false maxFraction (length (fractionOf n)) (e .1);
-      primary-most = omega (arith, primary-places w, places);
-      secondary-most = omega (arith, secondary-places w, places);
-      secondary-least = secondary-some w p;
+      step-least = step-some (w .number-is);
+      step-most = no-more maxStep (stepIn (w .number-is)) o;
+      least-most = omega (arith, digits-commas l, places, c);
+      fraction-most = digits-length f;
+      most-most = no-more maxFraction (length f) (λ k. m (inr k));
+      primary-most = omega (arith, primary-places l, places, c);
+      secondary-most = omega (arith, secondary-places l, places, c);
+      secondary-least = secondary-some l (w .number-is .whole-is);
     }
 
-verdict-bounds : (s : List ℕ) {r : PatternReading} → Verdict s r → (p : Pattern) → r ≡ Is p → Bounds p
-verdict-bounds s (too-long h) p e = not-read _ p e
-verdict-bounds s (not-utf8 h u) p e = not-read _ p e
-verdict-bounds s (reserved h u a) p e = not-read _ p e
-verdict-bounds s (not-a-pattern q f) p e = not-read _ p e
-verdict-bounds s (many-places q w m) p e = not-read _ p e
-verdict-bounds s (large-step q w m o) p e = not-read _ p e
-verdict-bounds s (many-marks q w m o k) p e = not-read _ p e
-verdict-bounds s (other-marks q w m o k d) p e = not-read _ p e
-verdict-bounds s (read q w m o k d) p e =
-    let same : patternOf (halfOf s) (negativeOf s) ≡ p = cc in
-    subst Bounds same
-    (half-bounds s (pattern-complete w)
-    (either-false (manyPlaces (halfOf s)) (manyPlaces (secondHalf s)) m .0)
-    (either-false (stepOver (halfOf s)) (stepOver (secondHalf s)) o .0))
+pattern-bounds : {s : List ℕ} (w : IsPattern s) → Past35 w → Bounds (patternIn w)
+pattern-bounds (one w) q = asked-bounds w MinusSymbol (q .past .places) (q .step)
+pattern-bounds (two {a} w v) q = asked-bounds w (ownIn (length a + 1) v) (λ m. q .past .places (inl m)) (λ m. q .step (inl m))
 
 pub read-bounds : (s : List ℕ) (p : Pattern) → readPattern s ≡ Is p → Bounds p
-read-bounds s p e = verdict-bounds s (verdict-found s) p e
+read-bounds s p e =
+    let w = read-plain s p e .1 in
+    let a = read-asks s w p e in
+    subst Bounds (a .is) (pattern-bounds w (a .past))
+
+-- "`%` multiplies by 100, `‰` by 1000"
+factor-most : (prefix suffix : List ℕ) → factorIn prefix suffix ≤ 1000
+factor-most prefix suffix =
+    choice (λ (n : ℕ). n ≤ 1000) (eqb (marksIn Percent prefix suffix) 1) (λ k. omega arith)
+    (λ k. choice (λ (n : ℕ). n ≤ 1000) (eqb (marksIn Permille prefix suffix) 1) (λ l. omega arith) (λ l. omega arith))
+
+pub read-factor : (s : List ℕ) (p : Pattern) → readPattern s ≡ Is p → p .factor ≤ 1000
+read-factor s p e =
+    let w = read-plain s p e .1 in
+    subst (λ (q : Pattern). q .factor ≤ 1000) (read-asks s w p e .is) (asked-factor w)
+  where
+    asked-factor : {t : List ℕ} (w : IsPattern t) → patternIn w .factor ≤ 1000
+    asked-factor (one w) = factor-most (w .prefix) (w .suffix)
+    asked-factor (two w v) = factor-most (w .prefix) (w .suffix)

@@ -14,7 +14,7 @@ use Rattle.decimal.specs.Digits.{isDigit, begins, run, AllDigits}
 use Rattle.decimal.proofs.Choices.{tested, not-both}
 use Rattle.decimal.proofs.Runs.{digits-head, digits-cons, digits-run, run-append, run-le}
 use Rattle.numberpart.specs.Shape.{find, wholeOf, fractionOf, digits, misplaced, seenAfter, ordered, badComma, apart, wholeFits, hashes, fractionFits, numberFits}
-use Rattle.pattern_grammar.specs.NumberPart.{dropCommas, AllHashes, IsPlaces, IsWhole, IsFraction, Sides, unpointed, pointed, IsPart}
+use Rattle.pattern_grammar.specs.NumberPart.{dropCommas, AllHashes, IsWhole, IsFraction, Sides, unpointed, pointed, IsPart}
 
 -- ---- `#` alone
 
@@ -264,9 +264,12 @@ sides-read (pointed {w} {f}) o =
         let e : suc (length w) + 1 ≡ suc (length w + 1) = omega arith in
         rw e (behind w f)
 
+pub part-sides : (n : List ℕ) (p : IsPart n) → (wholeOf n ≡ p .whole) × (fractionOf n ≡ p .fraction)
+part-sides n p = sides-read (p .sides) (whole-ordered (p .whole) (p .whole-is))
+
 pub number-complete : (n : List ℕ) → IsPart n → numberFits n ≡ true
 number-complete n p =
-    let d = sides-read (p .sides) (whole-ordered (p .whole) (p .whole-is)) in
+    let d = part-sides n p in
     rw (lt-ltb 0 (digits n) (p .some-digit), d .0, d .1, whole-complete (p .whole) (p .whole-is))
     (fraction-complete (p .fraction) (p .fraction-is))
 
@@ -315,7 +318,3 @@ number-sound n e = tested (ltb 0 (digits n)) some (λ k. not-both e (rw k))
               fraction-is = fraction-sound (fractionOf n) (rw (k, w) at e);
               some-digit = ltb-true 0 (digits n) k;
             }
-
-pub number-whole : (n : List ℕ) → numberFits n ≡ true → wholeFits (wholeOf n) ≡ true
-number-whole n e =
-    tested (ltb 0 (digits n)) (λ k. tested (wholeFits (wholeOf n)) (λ w. w) (λ w. not-both e (rw (k, w)))) (λ k. not-both e (rw k))

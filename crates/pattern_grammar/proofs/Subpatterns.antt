@@ -21,8 +21,8 @@ use Rattle.numberpart.specs.Shape.{digits, misplaced, seenAfter, ordered, numbe
 use Rattle.pattern.specs.Reading.{places, prefixLen, numberLen, behind, suffixAffix, prefixOf, numberOf, suffixOf, halfOf, endOf, fits}
 use Rattle.pattern_grammar.specs.NumberPart.{AllHashes, IsFraction, Sides, unpointed, pointed, IsPart}
 use Rattle.pattern_grammar.specs.Grammar.{IsAffix, done, apostrophe, quote, bare, IsSub, IsPattern, one, two}
-use Rattle.pattern_grammar.specs.Verdict.{wellFormed}
 use Rattle.pattern_grammar.proofs.Parts.{hashes-head, whole-ordered, number-sound, number-complete}
+use Rattle.pattern_grammar.proofs.Halves.{wellFormed}
 use Rattle.pattern_grammar.proofs.Affixes.{stops, affix-sound, affix-found, bare-parts}
 
 -- ---- number-part bytes
@@ -123,6 +123,15 @@ pub record Read (s p n x : List ℕ) : Type 0 where
   pub suffix : suffixAffix s ≡ record { len = length x; closed = true }
   pub part : numberOf s ≡ n
 
+-- what stands behind two parts
+pub drop-two : (p n x : List ℕ) → drop (length p + length n) (p ++ (n ++ x)) ≡ x
+drop-two p n x =
+    sym (drop-drop (length n) (length p) (p ++ (n ++ x))) ∙ (rw (drop-at p (n ++ x) (length p) refl) (drop-at n x (length n) refl))
+
+-- the parts of a subpattern with what follows it
+pub sub-before : (a r : List ℕ) (w : IsSub a) → a ++ r ≡ w .prefix ++ (w .number ++ (w .suffix ++ r))
+sub-before a r w = ap (λ (l : List ℕ). l ++ r) (w .text) ∙ simp append-assoc
+
 read-parts : (p n x r : List ℕ) → IsAffix false p → IsPart n → IsAffix false x → ends r ≡ true → Read (p ++ (n ++ (x ++ r))) p n x
 read-parts p n x r ap-is n-is x-is e =
     record { prefix = pre; number = num; suffix = suf; part = rw (num, pre, cut) (take-at n (x ++ r) (length n) refl) }
@@ -139,20 +148,15 @@ read-parts p n x r ap-is n-is x-is e =
     num : numberLen (p ++ (n ++ (x ++ r))) ≡ length n
     num = rw (pre, cut) (omega (arith, part-places n (x ++ r) n-is, suffix-places x-is r e))
 
-    rest : drop (length p + length n) (p ++ (n ++ (x ++ r))) ≡ x ++ r
-    rest = sym (drop-drop (length n) (length p) (p ++ (n ++ (x ++ r)))) ∙ (rw cut (drop-at n (x ++ r) (length n) refl))
-
     suf : suffixAffix (p ++ (n ++ (x ++ r))) ≡ record { len = length x; closed = true }
-    suf = rw (num, pre, rest) (affix-found x r x-is (ends-stop r e))
+    suf = rw (num, pre, drop-two p n (x ++ r)) (affix-found x r x-is (ends-stop r e))
 
 pub read-sub : (a r : List ℕ) (w : IsSub a) → ends r ≡ true → Read (a ++ r) (w .prefix) (w .number) (w .suffix)
 read-sub a r w e =
     let p = w .prefix in
     let n = w .number in
     let x = w .suffix in
-    let t : p ++ (n ++ (x ++ r)) ≡ a ++ r =
-    sym (ap (λ (l : List ℕ). l ++ r) (w .text) ∙ (append-assoc p (n ++ x) r ∙ ap (λ (l : List ℕ). p ++ l) (append-assoc n x r))) in
-    subst (λ (s : List ℕ). Read s p n x) t (read-parts p n x r (w .prefix-is) (w .number-is) (w .suffix-is) e)
+    subst (λ (s : List ℕ). Read s p n x) (sym (sub-before a r w)) (read-parts p n x r (w .prefix-is) (w .number-is) (w .suffix-is) e)
 
 pub read-end : (a r : List ℕ) (w : IsSub a) → ends r ≡ true → endOf (halfOf (a ++ r)) ≡ length a
 read-end a r w e =
@@ -299,33 +303,18 @@ pattern-complete (two {a} {b} w v) =
           f,
         ) h
 
--- the first subpattern of a pattern has a number part
-pub first-fits : (s : List ℕ) → wellFormed s ≡ true → numberFits (numberOf s) ≡ true
-first-fits s e = fits-parts s (first e) .1
-  where
-    first : wellFormed s ≡ true → fits (halfOf s) ≡ true
-    first e =
-        let at = endOf (halfOf s) in
-        let b = halfOf (drop (at + 1) s) in
-        tested (eqb at (length s)) (λ k. rw k at e)
-        (λ k.
-        tested (eqb (getD s at 0) 59)
-        (λ g.
-        tested (eqb (at + 1 + endOf b) (length s))
-        (λ l. both-true (fits (halfOf s)) (fits b) (rw (k, g, l) at e) .0)
-        (λ l. not-both e (rw (k, g, l))))
-        (λ g. not-both e (rw (k, g))))
-
--- the parts of a subpattern are the ones that are read: a text is a subpattern in one way only
-pub parts-read : (s : List ℕ) (w : IsSub s) → (prefixOf s ≡ w .prefix) × (numberOf s ≡ w .number) × (suffixOf s ≡ w .suffix)
-parts-read s w =
-    let d : Read s (w .prefix) (w .number) (w .suffix) = subst (λ (t : List ℕ). Read t (w .prefix) (w .number) (w .suffix)) (append-nil s) (read-sub s [] w refl) in
+-- The parts of a subpattern are the ones that are read, whatever ends it: a text is a subpattern in one way only.
+pub parts-before : (a r : List ℕ) (w : IsSub a) → ends r ≡ true
+    → (prefixOf (a ++ r) ≡ w .prefix) × (numberOf (a ++ r) ≡ w .number) × (suffixOf (a ++ r) ≡ w .suffix)
+parts-before a r w e =
+    let d = read-sub a r w e in
     let p = w .prefix in
     let n = w .number in
     let x = w .suffix in
-    let t = w .text in
-    let rest : drop (length p + length n) (p ++ (n ++ x)) ≡ x =
-    sym (drop-drop (length n) (length p) (p ++ (n ++ x))) ∙ (rw (drop-at p (n ++ x) (length p) refl) (drop-at n x (length n) refl)) in
-    let b : behind s ≡ x = rw (d .number, d .prefix, t) rest in
-    let l : suffixAffix s .len ≡ length x = ap (λ (a : Affix). a .len) (d .suffix) in
-    (rw (d .prefix, t) (take-at p (n ++ x) (length p) refl), d .part, rw (l, b) (take-length x))
+    let t = sub-before a r w in
+    let b : behind (a ++ r) ≡ x ++ r = rw (d .number, d .prefix, t) (drop-two p n (x ++ r)) in
+    let l : suffixAffix (a ++ r) .len ≡ length x = ap (λ (y : Affix). y .len) (d .suffix) in
+    (rw (d .prefix, t) (take-at p (n ++ (x ++ r)) (length p) refl), d .part, rw (l, b) (take-at x r (length x) refl))
+
+pub parts-read : (s : List ℕ) (w : IsSub s) → (prefixOf s ≡ w .prefix) × (numberOf s ≡ w .number) × (suffixOf s ≡ w .suffix)
+parts-read s w = rw append-nil at (parts-before s [] w refl)

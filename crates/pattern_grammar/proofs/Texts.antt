@@ -1,126 +1,169 @@
--- A pattern that is read has its parts where the grammar has them; of a negative subpattern only the affixes are used.
+-- A pattern that is read asks for what its parts in the grammar say, and has them where the grammar has them; of a negative subpattern only the
+-- affixes are used.
 use mathlib.Core.Path.{_≡_, refl, sym, ap, subst, _∙_}
-use mathlib.Core.Bool.{true}
-use mathlib.Core.List.{List, [], _∷_, _++_, append-nil, append-assoc}
-use Prim.Native.Nat.{ℕ, _+_, _-_}
+use mathlib.Core.List.{List, [], _∷_, _++_, append-nil}
+use mathlib.Core.Logic.{_↔_, inl}
+use Prim.Native.Nat.{ℕ, zero, suc, _+_, _≤_, _<_}
 use native.Mathlib.Omega.{arith}
-use borrow.Author.Tests.{eq-eqb, ne-eqb}
-use lib.ListN.{length, take, drop, length-append}
-use lib.Seq.{take-at, drop-at, drop-drop}
-use Rattle.lexer.specs.declared.Affix.{Affix}
-use Rattle.numberpart.specs.Shape.{shapeOf}
+use borrow.Author.Tests.{eqb-true, eqb-false}
+use lib.Dec.{eqb}
+use lib.ListN.{length, take, drop}
+use lib.Seq.{take-at, take-length, drop-at, drop-drop}
+use Rattle.decimal.specs.Choice.{if_then_else_}
+use Rattle.decimal.proofs.Choices.{tested}
+use Rattle.lexer.specs.declared.Mark.the-variants.{Percent, Permille}
 use Rattle.pattern.specs.declared.Negative.{Negative}
 use Rattle.pattern.specs.declared.Negative.the-variants.{MinusSymbol}
 use Rattle.pattern.specs.declared.Pattern.{Pattern}
 use Rattle.pattern.specs.declared.PatternReading.{PatternReading}
 use Rattle.pattern.specs.declared.PatternReading.the-variants.{Is}
-use Rattle.pattern.specs.Reading.{prefixLen, numberLen, behind, suffixAffix, prefixOf, numberOf, suffixOf, halfOf, endOf, span, patternOf, ownAffixes, readPattern}
-use Rattle.pattern_grammar.specs.Grammar.{IsSub}
-use Rattle.pattern_grammar.specs.Verdict.{negativeOf, Verdict, too-long, not-utf8, reserved, not-a-pattern, many-places, large-step, many-marks, other-marks, read}
-use Rattle.pattern_grammar.specs.Texts.{Parts, Affixes}
-use Rattle.pattern_grammar.proofs.Subpatterns.{ends, read-sub, read-end, second-text}
-use Rattle.pattern_grammar.proofs.Verdicts.{verdict-found, not-read}
+use Rattle.pattern.specs.Reading.{span, readPattern}
+use Rattle.pattern_grammar.specs.Grammar.{IsSub, IsPattern, one, two}
+use Rattle.pattern_grammar.specs.Meaning.{marksIn, factorIn, ManyMarks, InEither, OtherMarks, asked, ownIn, patternIn}
+use Rattle.pattern_grammar.specs.Verdict.{Plain, Past35, Verdict, too-long, not-utf8, reserved, not-a-pattern, many-places, large-step, many-marks, other-marks, read}
+use Rattle.pattern_grammar.specs.Texts.{Parts, Affixes, prefixIn, suffixIn, Multiplies}
+use Rattle.pattern_grammar.proofs.Subpatterns.{drop-two, sub-before, second-text}
+use Rattle.pattern_grammar.proofs.Meanings.{no-more}
+use Rattle.pattern_grammar.proofs.Verdicts.{verdict-given, verdict-found, refused-or-read, not-read}
 
--- what is read is the first subpattern with its negative affixes
-verdict-pattern : (s : List ℕ) {r : PatternReading} → Verdict s r → (p : Pattern) → r ≡ Is p → patternOf (halfOf s) (negativeOf s) ≡ p
-verdict-pattern s (too-long h) p e = not-read _ p e
-verdict-pattern s (not-utf8 h u) p e = not-read _ p e
-verdict-pattern s (reserved h u a) p e = not-read _ p e
-verdict-pattern s (not-a-pattern q f) p e = not-read _ p e
-verdict-pattern s (many-places q w m) p e = not-read _ p e
-verdict-pattern s (large-step q w m o) p e = not-read _ p e
-verdict-pattern s (many-marks q w m o k) p e = not-read _ p e
-verdict-pattern s (other-marks q w m o k d) p e = not-read _ p e
-verdict-pattern s (read q w m o k d) p e = cc
+-- ---- what is read
 
-read-pattern : (s : List ℕ) (p : Pattern) → readPattern s ≡ Is p → patternOf (halfOf s) (negativeOf s) ≡ p
-read-pattern s p e = verdict-pattern s (verdict-found s) p e
+pub read-plain : (s : List ℕ) (p : Pattern) → readPattern s ≡ Is p → Plain s × IsPattern s
+read-plain s p e = found (verdict-found s) e
+  where
+    found : {r : PatternReading} → Verdict s r → r ≡ Is p → Plain s × IsPattern s
+    found (too-long h) k = not-read _ p k
+    found (not-utf8 h u) k = not-read _ p k
+    found (reserved h u a) k = not-read _ p k
+    found (not-a-pattern q f) k = not-read _ p k
+    found (many-places q w m) k = not-read _ p k
+    found (large-step w q m) k = not-read _ p k
+    found (many-marks w q m) k = not-read _ p k
+    found (other-marks w q m) k = not-read _ p k
+    found (read w q m o) k = (q .past .plain, w)
 
--- the parts of a subpattern before what ends it
-module _ (a r : List ℕ) (w : IsSub a) (e : ends r ≡ true) where
-  text : a ++ r ≡ w .prefix ++ (w .number ++ (w .suffix ++ r))
-  text = ap (λ (l : List ℕ). l ++ r) (w .text) ∙ simp append-assoc
+-- In whatever way the text is a pattern, no row applies to it and it asks for what is read.
+pub record Asks {s : List ℕ} (w : IsPattern s) (p : Pattern) : Type 0 where
+  pub past : Past35 w
+  pub few : InEither ManyMarks w → ⊥
+  pub same : OtherMarks w → ⊥
+  pub is : patternIn w ≡ p
 
-  prefix-is : prefixOf (a ++ r) ≡ w .prefix
-  prefix-is =
-      let d = read-sub a r w e in
-      ap (λ (k : ℕ). take k (a ++ r)) (d .prefix)
-      ∙ (ap (take (length (w .prefix))) text ∙ take-at (w .prefix) (w .number ++ (w .suffix ++ r)) (length (w .prefix)) refl)
+pub read-asks : (s : List ℕ) (w : IsPattern s) (p : Pattern) → readPattern s ≡ Is p → Asks w p
+read-asks s w p e =
+    refused-or-read s (read-plain s p e .0) w (λ row v. not-read row p (sym (verdict-given s v) ∙ e))
+    (λ r m o. record { past = r; few = m; same = o; is = pattern-same (sym (verdict-given s (read w r m o)) ∙ e) })
+  where
+    pattern-same : {q : Pattern} → Is q ≡ Is p → q ≡ p
+    pattern-same {q} k = cc
 
-  behind-is : behind (a ++ r) ≡ w .suffix ++ r
-  behind-is =
-      let d = read-sub a r w e in
-      let p = w .prefix in
-      let n = w .number in
-      let x = w .suffix ++ r in
-      let c : prefixLen (a ++ r) + numberLen (a ++ r) ≡ length p + length n = omega (arith, d .prefix, d .number) in
-      ap (λ (k : ℕ). drop k (a ++ r)) c
-      ∙ (ap (drop (length p + length n)) text
-      ∙ (sym (drop-drop (length n) (length p) (p ++ (n ++ x)))
-      ∙ (ap (drop (length n)) (drop-at p (n ++ x) (length p) refl) ∙ drop-at n x (length n) refl)))
+-- so a pattern that is read asks for one thing only
+pub same-meaning : (s : List ℕ) (w v : IsPattern s) (p : Pattern) → readPattern s ≡ Is p → patternIn w ≡ patternIn v
+same-meaning s w v p e = read-asks s w p e .is ∙ sym (read-asks s v p e .is)
 
-  suffix-is : suffixOf (a ++ r) ≡ w .suffix
-  suffix-is =
-      let d = read-sub a r w e in
-      let l : suffixAffix (a ++ r) .len ≡ length (w .suffix) = ap (λ (y : Affix). y .len) (d .suffix) in
-      ap (λ (k : ℕ). take k (behind (a ++ r))) l
-      ∙ (ap (take (length (w .suffix))) behind-is ∙ take-at (w .suffix) r (length (w .suffix)) refl)
+-- ---- where the parts of a subpattern stand
 
-  half-parts : (n : Negative) → Parts (a ++ r) (patternOf (halfOf (a ++ r)) n) (w .prefix) (w .number) (w .suffix)
-  half-parts n =
-      let d = read-sub a r w e in
-      let t : numberOf (a ++ r) ≡ w .number = d .part in
-      record {
-        prefix-text = prefix-is;
-        number-text = t;
-        suffix-text = suffix-is;
-        least = ap (λ (l : List ℕ). shapeOf l .least) t;
-        fraction = ap (λ (l : List ℕ). shapeOf l .fraction) t;
-        most = ap (λ (l : List ℕ). shapeOf l .most) t;
-        primary = ap (λ (l : List ℕ). shapeOf l .primary) t;
-        secondary = ap (λ (l : List ℕ). shapeOf l .secondary) t;
-        step = ap (λ (l : List ℕ). shapeOf l .step) t;
-      }
+asked-parts : (a r : List ℕ) (w : IsSub a) (n : Negative) → Parts (a ++ r) (asked w n) (w .prefix) (w .number) (w .suffix)
+asked-parts a r w n =
+    let t = sub-before a r w in
+    let x = w .suffix ++ r in
+    record {
+      prefix-text = rw t (take-at (w .prefix) (w .number ++ x) (length (w .prefix)) refl);
+      number-text = rw (t, drop-at (w .prefix) (w .number ++ x) (length (w .prefix)) refl) (take-at (w .number) x (length (w .number)) refl);
+      suffix-text = rw (t, drop-two (w .prefix) (w .number) x) (take-at (w .suffix) r (length (w .suffix)) refl);
+      part = w .number-is;
+      least = refl;
+      fraction = refl;
+      most = refl;
+      primary = refl;
+      secondary = refl;
+      step = refl;
+      factor = refl;
+    }
 
 -- ---- a pattern of one subpattern
 
 pub one-read : (s : List ℕ) (w : IsSub s) (p : Pattern) → readPattern s ≡ Is p
     → Parts s p (w .prefix) (w .number) (w .suffix) × (p .negative ≡ MinusSymbol)
 one-read s w p e =
-    let same = read-pattern s p e in
-    let n : endOf (halfOf s) ≡ length s = ap (λ (l : List ℕ). endOf (halfOf l)) (sym (append-nil s)) ∙ read-end s [] w refl in
-    let m : negativeOf s ≡ MinusSymbol = rw (eq-eqb (endOf (halfOf s)) (length s) n) in
-    let h : Parts s (patternOf (halfOf s) (negativeOf s)) (w .prefix) (w .number) (w .suffix) =
-    subst (λ (l : List ℕ). Parts l (patternOf (halfOf l) (negativeOf s)) (w .prefix) (w .number) (w .suffix)) (append-nil s) (half-parts s [] w refl (negativeOf s)) in
-    (subst (λ (q : Pattern). Parts s q (w .prefix) (w .number) (w .suffix)) same h, sym (ap (λ (q : Pattern). q .negative) same) ∙ m)
+    let same = read-asks s (one w) p e .is in
+    let h : Parts s (asked w MinusSymbol) (w .prefix) (w .number) (w .suffix) = rw append-nil at (asked-parts s [] w MinusSymbol) in
+    (subst (λ (q : Pattern). Parts s q (w .prefix) (w .number) (w .suffix)) same h, sym (ap (λ (q : Pattern). q .negative) same))
 
 -- ---- a pattern of two
 
-pub two-read : (a b : List ℕ) (w : IsSub a) (v : IsSub b) (p : Pattern) → readPattern (a ++ (59 ∷ b)) ≡ Is p
-    → Parts (a ++ (59 ∷ b)) p (w .prefix) (w .number) (w .suffix) × Affixes (a ++ (59 ∷ b)) (p .negative) (v .prefix) (v .suffix)
-two-read a b w v p e =
+own-texts : (a b : List ℕ) (v : IsSub b) → Affixes (a ++ (59 ∷ b)) (ownIn (length a + 1) v) (v .prefix) (v .suffix)
+own-texts a b v =
     let s = a ++ (59 ∷ b) in
-    let same = read-pattern s p e in
-    let i : endOf (halfOf s) ≡ length a = read-end a (59 ∷ b) w refl in
-    let at = endOf (halfOf s) + 1 in
-    let d : drop at s ≡ b = ap (λ (k : ℕ). drop (k + 1) s) i ∙ second-text a b in
-    let o : negativeOf s ≡ ownAffixes at (halfOf (drop at s)) = rw (ne-eqb (endOf (halfOf s)) (length s) (λ y. omega (arith, length-append a (59 ∷ b)))) in
-    let t : drop at s ++ [] ≡ b ++ [] = ap (λ (l : List ℕ). l ++ []) d in
-    let q : prefixOf (drop at s) ≡ v .prefix = ap prefixOf (d ∙ sym (append-nil b)) ∙ prefix-is b [] v refl in
-    let x : suffixOf (drop at s) ≡ v .suffix = ap suffixOf (d ∙ sym (append-nil b)) ∙ suffix-is b [] v refl in (
-      subst (λ (y : Pattern). Parts s y (w .prefix) (w .number) (w .suffix)) same (half-parts a (59 ∷ b) w refl (negativeOf s)),
-      record {
-        before = span at (prefixLen (drop at s));
-        behind = span (at + prefixLen (drop at s) + numberLen (drop at s)) (suffixAffix (drop at s) .len);
-        own = sym (ap (λ (y : Pattern). y .negative) same) ∙ o;
-        prefix-text = q;
-        suffix-text =
-            ap (λ (l : List ℕ). take (suffixAffix (drop at s) .len) l)
-            (further s at (prefixLen (drop at s)) (numberLen (drop at s))) ∙ x;
-      },
-    )
+    let at = length a + 1 in
+    let p = v .prefix in
+    let n = v .number in
+    let x = v .suffix in
+    let d = second-text a b in
+    record {
+      before = span at (length p);
+      behind = span (at + length p + length n) (length x);
+      own = refl;
+      prefix-text = rw (d, v .text) (take-at p (n ++ x) (length p) refl);
+      suffix-text =
+          ap (λ (l : List ℕ). take (length x) l)
+          (further s at (length p) (length n) ∙ rw (d, v .text) (drop-two p n x)) ∙ take-length x;
+    }
   where
     further : (s : List ℕ) (at k n : ℕ) → drop (at + k + n) s ≡ drop (k + n) (drop at s)
     further s at k n =
         let e : at + (k + n) ≡ at + k + n = omega arith in
         sym (drop-drop (k + n) at s ∙ ap (λ (m : ℕ). drop m s) e)
+
+pub two-read : (a b : List ℕ) (w : IsSub a) (v : IsSub b) (p : Pattern) → readPattern (a ++ (59 ∷ b)) ≡ Is p
+    → Parts (a ++ (59 ∷ b)) p (w .prefix) (w .number) (w .suffix) × Affixes (a ++ (59 ∷ b)) (p .negative) (v .prefix) (v .suffix)
+two-read a b w v p e =
+    let s = a ++ (59 ∷ b) in
+    let n = ownIn (length a + 1) v in
+    subst (λ (q : Pattern). Parts s q (w .prefix) (w .number) (w .suffix) × Affixes s (q .negative) (v .prefix) (v .suffix))
+    (read-asks s (two w v) p e .is) (asked-parts a (59 ∷ b) w n, own-texts a b v)
+
+-- ---- what the value is multiplied by
+
+-- of at most one mark in all
+multiplied : (x y : ℕ) → x + y ≤ 1
+    → let f : ℕ = if eqb x 1 then 100 else if eqb y 1 then 1000 else 1 in
+    ((f ≡ 100) ↔ (x ≡ 1)) × ((f ≡ 1000) ↔ (y ≡ 1)) × ((f ≡ 1) ↔ ((x ≡ 0) × (y ≡ 0)))
+multiplied x y h =
+    tested (eqb x 1)
+    (λ k. let e = eqb-true x 1 k in rw k ((λ f. e, λ f. refl), (λ f. omega arith, λ f. omega arith), (λ f. omega arith, λ f. omega (arith, f .0))))
+    (λ k.
+    tested (eqb y 1)
+    (λ l.
+    let e = eqb-true y 1 l in
+    rw (k, l) ((λ f. omega arith, λ f. omega arith), (λ f. e, λ f. refl), (λ f. omega arith, λ f. omega (arith, f .1))))
+    (λ l.
+    let n = eqb-false x 1 k in
+    let m = eqb-false y 1 l in
+    rw (k, l) (
+      (λ f. omega arith, λ f. absurd (n f)),
+      (λ f. omega arith, λ f. absurd (m f)),
+      (λ f. (none x n (omega arith), none y m (omega arith)), λ f. refl),
+    )))
+  where
+    none : (x : ℕ) → (x ≡ 1 → ⊥) → x ≤ 1 → x ≡ 0
+    none zero n h = refl
+    none (suc zero) n h = absurd (n refl)
+    none (suc (suc x)) n h = absurd (omega arith)
+
+affixes-multiply : (prefix suffix : List ℕ) → (1 < marksIn Percent prefix suffix + marksIn Permille prefix suffix → ⊥)
+    → Multiplies (factorIn prefix suffix) prefix suffix
+affixes-multiply prefix suffix n =
+    let x = marksIn Percent prefix suffix in
+    let y = marksIn Permille prefix suffix in
+    let m = multiplied x y (no-more 1 (x + y) n) in
+    record { percent = m .0; permille = m .1; neither = m .2 }
+
+factor-asked : {s : List ℕ} (w : IsPattern s) → (InEither ManyMarks w → ⊥) → Multiplies (patternIn w .factor) (prefixIn w) (suffixIn w)
+factor-asked (one w) n = affixes-multiply (w .prefix) (w .suffix) n
+factor-asked (two w v) n = affixes-multiply (w .prefix) (w .suffix) (λ m. n (inl m))
+
+pub factor-is : (s : List ℕ) (w : IsPattern s) (p : Pattern) → readPattern s ≡ Is p → Multiplies (p .factor) (prefixIn w) (suffixIn w)
+factor-is s w p e =
+    let a = read-asks s w p e in
+    subst (λ (q : Pattern). Multiplies (q .factor) (prefixIn w) (suffixIn w)) (a .is) (factor-asked w (a .few))

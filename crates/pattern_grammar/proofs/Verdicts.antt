@@ -1,15 +1,16 @@
 -- Rows 30 to 36: a pattern gets the one answer that the table gives it.
-use mathlib.Core.Path.{_≡_, sym, subst, _∙_}
-use mathlib.Core.Bool.{true, false}
-use mathlib.Core.List.{List}
+use mathlib.Core.Path.{_≡_, refl, sym, ap, subst, _∙_}
+use mathlib.Core.Bool.{true, false, not}
+use mathlib.Core.List.{List, [], _∷_, _++_, append-nil}
 use Prim.Native.Nat.{ℕ, _+_}
 use native.Mathlib.Omega.{arith}
-use borrow.Author.Tests.{lt-ltb, le-ltb, ltb-true, ltb-false}
+use borrow.Author.Tests.{eq-eqb, ne-eqb, lt-ltb, le-ltb, ltb-true, ltb-false}
 use lib.Dec.{eqb, ltb}
-use lib.ListN.{length, getD, drop}
+use lib.ListN.{length, getD, drop, length-append}
 use Rattle.decimal.specs.Choice.{if_then_else_, both, either}
 use Rattle.decimal.proofs.Choices.{tested, not-both}
 use Rattle.utf8.specs.Utf8.{isUtf8}
+use Rattle.utf8.proofs.Lower.{either-false}
 use Rattle.lexer.specs.Items.{items}
 use Rattle.lexer.specs.Affixes.{anyReserved}
 use Rattle.answer.specs.declared.PatternRow.{PatternRow}
@@ -17,15 +18,19 @@ use Rattle.answer.specs.declared.PatternRow.the-variants.{NotAPattern, TooManyP
 use Rattle.pattern.specs.Limits.{maxBytes}
 use Rattle.pattern.specs.declared.Half.{Half}
 use Rattle.pattern.specs.declared.Negative.{Negative}
+use Rattle.pattern.specs.declared.Negative.the-variants.{MinusSymbol}
 use Rattle.pattern.specs.declared.Pattern.{Pattern}
 use Rattle.pattern.specs.declared.PatternReading.{PatternReading}
 use Rattle.pattern.specs.declared.PatternReading.the-variants.{Is}
-use Rattle.pattern.specs.Reading.{halfOf, endOf, fits, manyPlaces, stepOver, manyMarks, sameMarks, patternOf, judgedMarks, halves, readPattern, refuse}
-use Rattle.pattern_grammar.specs.Grammar.{IsPattern}
-use Rattle.pattern_grammar.specs.Verdict.{wellFormed, secondHalf, negativeOf, inEither, Plain, Verdict, too-long, not-utf8, reserved, not-a-pattern, many-places, large-step, many-marks, other-marks, read}
-use Rattle.pattern_grammar.proofs.Subpatterns.{pattern-sound, pattern-complete}
+use Rattle.pattern.specs.Reading.{halfOf, endOf, fits, manyPlaces, stepOver, manyMarks, sameMarks, patternOf, ownAffixes, judgedMarks, halves, readPattern, refuse}
+use Rattle.pattern_grammar.specs.Grammar.{IsSub, IsPattern, one, two}
+use Rattle.pattern_grammar.specs.Meaning.{ManyPlaces, StepOver, ManyMarks, InEither, OtherMarks, ownIn, patternIn}
+use Rattle.pattern_grammar.specs.Verdict.{Plain, Past34, Past35, Verdict, too-long, not-utf8, reserved, not-a-pattern, many-places, large-step, many-marks, other-marks, read}
+use Rattle.pattern_grammar.proofs.Halves.{wellFormed, secondHalf, negativeOf}
+use Rattle.pattern_grammar.proofs.Subpatterns.{read-end, second-text, pattern-sound, pattern-complete}
+use Rattle.pattern_grammar.proofs.Meanings.{Meant, half-meant, alone-meant, Told, holds, fails, settled, either-told, twice-told, not-told, not-holds, not-fails, places-told, step-told, marks-told, same-told, pattern-meant, own-meant}
 
--- ---- the subpatterns of a text that is well formed, and of one that is not
+-- ---- the halves of a text that is well formed, and of one that is not
 
 -- rows 34 to 36
 judgedRest : Half → Half → Negative → PatternReading
@@ -77,16 +82,80 @@ halves-bad s e = tested (eqb (endOf (halfOf s)) (length s)) alone other
         (λ l. rw (k, g, l)))
         (λ g. rw (k, g))
 
+-- ---- the reader's halves of a pattern
+
+-- the halves that rows 34 to 36 judge, with the negative affixes, and that each row's test is its condition
+record Grounds {s : List ℕ} (w : IsPattern s) : Type 0 where
+  first : Half
+  second : Half
+  negative : Negative
+  judged-by : halves s ≡ judgedRest first second negative
+  places : Told (either (manyPlaces first) (manyPlaces second)) (InEither ManyPlaces w)
+  step : Told (either (stepOver first) (stepOver second)) (InEither StepOver w)
+  marks : Told (either (manyMarks first) (manyMarks second)) (InEither ManyMarks w)
+  other : Told (not (sameMarks first second)) (OtherMarks w)
+  is : either (manyMarks first) (manyMarks second) ≡ false → patternOf first negative ≡ patternIn w
+
+one-grounds : (s : List ℕ) (w : IsSub s) → Grounds (one w)
+one-grounds s w =
+    let h = halfOf s in
+    let m = alone-meant s w in
+    let e : endOf h ≡ length s = ap (λ (l : List ℕ). endOf (halfOf l)) (sym (append-nil s)) ∙ read-end s [] w refl in
+    let k = eq-eqb (endOf h) (length s) e in
+    let same : sameMarks h h ≡ true = rw (eq-eqb (h .percents) (h .percents) refl, eq-eqb (h .permilles) (h .permilles) refl) in
+    record {
+      first = h;
+      second = h;
+      negative = MinusSymbol;
+      judged-by = halves-good s (pattern-complete (one w)) ∙ rw k;
+      places = twice-told (places-told w h m);
+      step = twice-told (step-told w h m);
+      marks = twice-told (marks-told w h m);
+      other = record { yes = λ y. not-both same (not-holds (sameMarks h h) y); no = λ _ o. o };
+      is = λ y. pattern-meant w h m (either-false (manyMarks h) (manyMarks h) y .0) MinusSymbol;
+    }
+
+two-grounds : (a b : List ℕ) (w : IsSub a) (v : IsSub b) → Grounds (two w v)
+two-grounds a b w v =
+    let s = a ++ (59 ∷ b) in
+    let h = halfOf s in
+    let l = halfOf b in
+    let m : Meant w h = half-meant a (59 ∷ b) w refl in
+    let n = alone-meant b v in
+    let e : endOf h ≡ length a = read-end a (59 ∷ b) w refl in
+    let k = ne-eqb (endOf h) (length s) (λ y. omega (arith, length-append a (59 ∷ b))) in
+    let d : drop (endOf h + 1) s ≡ b = ap (λ (i : ℕ). drop (i + 1) s) e ∙ second-text a b in
+    let x : secondHalf s ≡ l = rw (k, d) in
+    let y : negativeOf s ≡ ownIn (length a + 1) v =
+    rw (k, d) (ap (λ (i : ℕ). ownAffixes (i + 1) l) e ∙ own-meant v l n (length a + 1)) in
+    record {
+      first = h;
+      second = l;
+      negative = ownIn (length a + 1) v;
+      judged-by =
+          halves-good s (pattern-complete (two w v))
+          ∙ (ap (λ (i : Half). judgedRest h i (negativeOf s)) x ∙ ap (λ (i : Negative). judgedRest h l i) y);
+      places = either-told (places-told w h m) (places-told v l n);
+      step = either-told (step-told w h m) (step-told v l n);
+      marks = either-told (marks-told w h m) (marks-told v l n);
+      other = not-told (same-told w v h l m n);
+      is = λ y. pattern-meant w h m (either-false (manyMarks h) (manyMarks l) y .0) (ownIn (length a + 1) v);
+    }
+
+grounds : {s : List ℕ} (w : IsPattern s) → Grounds w
+grounds (one {s} w) = one-grounds s w
+grounds (two {a} {b} w v) = two-grounds a b w v
+
 -- ---- each row's condition gives its answer
 
 plain-read : (s : List ℕ) → Plain s → readPattern s ≡ halves s
 plain-read s p = rw (le-ltb maxBytes (length s) (p .short), p .utf8, p .unreserved)
 
-good-read : (s : List ℕ) → Plain s → IsPattern s → readPattern s ≡ judgedRest (halfOf s) (secondHalf s) (negativeOf s)
-good-read s p w = plain-read s p ∙ halves-good s (pattern-complete w)
-
 not-formed : (s : List ℕ) → (IsPattern s → ⊥) → wellFormed s ≡ false
 not-formed s f = tested (wellFormed s) (λ k. absurd (f (pattern-sound s k))) (λ k. k)
+
+judged-read : (s : List ℕ) (w : IsPattern s) → Plain s → readPattern s ≡ judgedRest (grounds w .first) (grounds w .second) (grounds w .negative)
+judged-read s w p = plain-read s p ∙ grounds w .judged-by
 
 -- the rows of two subpatterns that have the grammar
 module _ (a b : Half) (n : Negative) where
@@ -103,15 +172,15 @@ module _ (a b : Half) (n : Negative) where
   unfolding judgedRest
   rest-36 e f g = rw (e, f, g)
 
-  rest-differ : either (manyPlaces a) (manyPlaces b) ≡ false → either (stepOver a) (stepOver b) ≡ false → either (manyMarks a) (manyMarks b) ≡ false
-      → sameMarks a b ≡ false → judgedRest a b n ≡ refuse PercentMismatch
+  rest-differ : either (manyPlaces a) (manyPlaces b) ≡ false → either (stepOver a) (stepOver b) ≡ false → not (sameMarks a b) ≡ true
+      → judgedRest a b n ≡ refuse PercentMismatch
   unfolding judgedRest
-  rest-differ e f g h = rw (e, f, g, h)
+  rest-differ e f h = tested (either (manyMarks a) (manyMarks b)) (λ g. rw (e, f, g)) (λ g. rw (e, f, g, not-holds (sameMarks a b) h))
 
   rest-read : either (manyPlaces a) (manyPlaces b) ≡ false → either (stepOver a) (stepOver b) ≡ false → either (manyMarks a) (manyMarks b) ≡ false
-      → sameMarks a b ≡ true → judgedRest a b n ≡ Is (patternOf a n)
+      → not (sameMarks a b) ≡ false → judgedRest a b n ≡ Is (patternOf a n)
   unfolding judgedRest
-  rest-read e f g h = rw (e, f, g, h)
+  rest-read e f g h = rw (e, f, g, not-fails (sameMarks a b) h)
 
 -- "given exactly when": the answer whose row's condition holds is the reader's answer ..
 pub verdict-given : (s : List ℕ) {r : PatternReading} → Verdict s r → readPattern s ≡ r
@@ -119,44 +188,64 @@ verdict-given s (too-long h) = rw (lt-ltb maxBytes (length s) h)
 verdict-given s (not-utf8 h u) = rw (le-ltb maxBytes (length s) h, u)
 verdict-given s (reserved h u a) = rw (le-ltb maxBytes (length s) h, u, a)
 verdict-given s (not-a-pattern p f) = plain-read s p ∙ halves-bad s (not-formed s f)
-verdict-given s (many-places p w e) = good-read s p w ∙ rest-34 (halfOf s) (secondHalf s) (negativeOf s) e
-verdict-given s (large-step p w e f) = good-read s p w ∙ rest-35 (halfOf s) (secondHalf s) (negativeOf s) e f
-verdict-given s (many-marks p w e f g) = good-read s p w ∙ rest-36 (halfOf s) (secondHalf s) (negativeOf s) e f g
-verdict-given s (other-marks p w e f g h) = good-read s p w ∙ rest-differ (halfOf s) (secondHalf s) (negativeOf s) e f g h
-verdict-given s (read p w e f g h) = good-read s p w ∙ rest-read (halfOf s) (secondHalf s) (negativeOf s) e f g h
+verdict-given s (many-places p w e) =
+    let g = grounds w in
+    judged-read s w p ∙ rest-34 (g .first) (g .second) (g .negative) (holds (g .places) e)
+verdict-given s (large-step w p e) =
+    let g = grounds w in
+    judged-read s w (p .plain) ∙ rest-35 (g .first) (g .second) (g .negative) (fails (g .places) (p .places)) (holds (g .step) e)
+verdict-given s (many-marks w p e) =
+    let g = grounds w in
+    judged-read s w (p .past .plain)
+    ∙ rest-36 (g .first) (g .second) (g .negative) (fails (g .places) (p .past .places)) (fails (g .step) (p .step)) (holds (g .marks) e)
+verdict-given s (other-marks w p e) =
+    let g = grounds w in
+    judged-read s w (p .past .plain)
+    ∙ rest-differ (g .first) (g .second) (g .negative) (fails (g .places) (p .past .places)) (fails (g .step) (p .step)) (holds (g .other) e)
+verdict-given s (read w p m o) =
+    let g = grounds w in
+    let k = fails (g .marks) m in
+    judged-read s w (p .past .plain)
+    ∙ (rest-read (g .first) (g .second) (g .negative) (fails (g .places) (p .past .places)) (fails (g .step) (p .step)) k (fails (g .other) o)
+    ∙ ap Is (g .is k))
+
+-- a plain pattern, in whatever way the text is one, is refused by one of 34 to 36 or is read
+pub refused-or-read : {A : Type 0} (s : List ℕ) → Plain s → (w : IsPattern s)
+    → ((row : PatternRow) → Verdict s (refuse row) → A)
+    → (Past35 w → (InEither ManyMarks w → ⊥) → (OtherMarks w → ⊥) → A)
+    → A
+refused-or-read s p w refused is =
+    let g = grounds w in
+    settled (g .places) (λ e. refused TooManyPlaces (many-places p w e))
+    (λ n.
+    let q : Past34 w = record { plain = p; places = n } in
+    settled (g .step) (λ e. refused StepTooLarge (large-step w q e))
+    (λ l.
+    let r : Past35 w = record { past = q; step = l } in
+    settled (g .marks) (λ e. refused PercentMismatch (many-marks w r e))
+    (λ m. settled (g .other) (λ e. refused PercentMismatch (other-marks w r e)) (λ o. is r m o))))
 
 -- .. and some row's condition holds of every text, so the reader's answer is always one whose row's condition holds
-some-row : (s : List ℕ) → Plain s → IsPattern s → Verdict s (readPattern s)
-some-row s p w =
-    tested (inEither manyPlaces s) (λ e. made (many-places p w e))
-    (λ e.
-    tested (inEither stepOver s) (λ f. made (large-step p w e f))
-    (λ f.
-    tested (inEither manyMarks s) (λ g. made (many-marks p w e f g))
-    (λ g. tested (sameMarks (halfOf s) (secondHalf s)) (λ h. made (read p w e f g h)) (λ h. made (other-marks p w e f g h)))))
-  where
-    made : {r : PatternReading} → Verdict s r → Verdict s (readPattern s)
-    made {r} v = subst (Verdict s) (sym (verdict-given s v)) v
+made : (s : List ℕ) {r : PatternReading} → Verdict s r → Verdict s (readPattern s)
+made s v = subst (Verdict s) (sym (verdict-given s v)) v
 
 pub verdict-found : (s : List ℕ) → Verdict s (readPattern s)
-verdict-found s = tested (ltb maxBytes (length s)) (λ k. made (too-long (ltb-true maxBytes (length s) k))) short
+verdict-found s = tested (ltb maxBytes (length s)) (λ k. made s (too-long (ltb-true maxBytes (length s) k))) short
   where
-    made : {r : PatternReading} → Verdict s r → Verdict s (readPattern s)
-    made {r} v = subst (Verdict s) (sym (verdict-given s v)) v
-
     formed : Plain s → Verdict s (readPattern s)
     formed p =
-        tested (wellFormed s) (λ k. some-row s p (pattern-sound s k))
-        (λ k. made (not-a-pattern p (λ w. not-both (pattern-complete w) k)))
+        tested (wellFormed s)
+        (λ k. let w = pattern-sound s k in refused-or-read s p w (λ row v. made s v) (λ r m o. made s (read w r m o)))
+        (λ k. made s (not-a-pattern p (λ w. not-both (pattern-complete w) k)))
 
     short : ltb maxBytes (length s) ≡ false → Verdict s (readPattern s)
     short k =
         let h = ltb-false maxBytes (length s) k in
         tested (isUtf8 s)
         (λ u.
-        tested (anyReserved (items s)) (λ a. made (reserved h u a))
+        tested (anyReserved (items s)) (λ a. made s (reserved h u a))
         (λ a. formed (record { short = h; utf8 = u; unreserved = a })))
-        (λ u. made (not-utf8 h u))
+        (λ u. made s (not-utf8 h u))
 
 -- a refusal is not a pattern that is read
 pub not-read : {A : Type 0} (row : PatternRow) (p : Pattern) → refuse row ≡ Is p → A

@@ -1,5 +1,6 @@
 pub mod NumberPart
 pub mod Grammar
+pub mod Meaning
 pub mod Verdict
 pub mod Bounds
 pub mod Texts

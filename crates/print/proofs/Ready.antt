@@ -1,5 +1,5 @@
 -- What is read of symbols, pattern and number is within the bounds of rounding and of an area's places.
-use mathlib.Core.Path.{_≡_, subst}
+use mathlib.Core.Path.{_≡_}
 use mathlib.Core.Bool.{true, false}
 use mathlib.Core.List.{List}
 use Prim.Native.Nat.{ℕ, _-_, _≤_, _<_}
@@ -9,7 +9,7 @@ use lib.Dec.{ltb}
 use lib.ListN.{length, take, drop}
 use lib.Seq.{take-append-seam}
 use Rattle.decimal.specs.Digits.{figures}
-use Rattle.decimal.proofs.Choices.{tested, choice}
+use Rattle.decimal.proofs.Choices.{tested}
 use Rattle.decimal.proofs.Values.{power-mono}
 use Rattle.decimal.proofs.Figured.{length-figures}
 use Rattle.answer.specs.declared.Refusal.the-variants.{AreaTooShort}
@@ -22,15 +22,12 @@ use Rattle.number.specs.declared.Number.{Number}
 use Rattle.number.specs.declared.Reading.the-variants.{Is as NumberIs}
 use Rattle.number.specs.Reading.{readNumber}
 use Rattle.number.proofs.Admissible.{admitted}
-use Rattle.pattern.specs.declared.Half.{Half}
 use Rattle.pattern.specs.declared.Pattern.{Pattern}
-use Rattle.pattern.specs.declared.PatternReading.{PatternReading}
 use Rattle.pattern.specs.declared.PatternReading.the-variants.{Is as PatternIs}
 use Rattle.pattern.specs.Limits.{maxBytes}
-use Rattle.pattern.specs.Reading.{factorOf, halfOf, patternOf, readPattern}
-use Rattle.pattern_grammar.specs.Verdict.{negativeOf, Verdict, too-long, not-utf8, reserved, not-a-pattern, many-places, large-step, many-marks, other-marks, read}
-use Rattle.pattern_grammar.proofs.Verdicts.{verdict-found, not-read}
-use Rattle.pattern_grammar.proofs.Bounds.{read-bounds}
+use Rattle.pattern.specs.Reading.{readPattern}
+use Rattle.pattern_grammar.proofs.Verdicts.{not-read}
+use Rattle.pattern_grammar.proofs.Bounds.{read-bounds, read-factor}
 use Rattle.rounding.specs.Nearest.{unitsOf}
 use Rattle.rounding.specs.Limits.{within, width, rounded}
 use Rattle.rounding.proofs.Arithmetic.{fits-within}
@@ -38,25 +35,6 @@ use Rattle.layout.specs.Text.{affixesOf, digitsOf, textOf}
 use Rattle.print.specs.declared.Printed.the-variants.{Text, Refused}
 use Rattle.print.specs.Outcome.{text, answerOf, areaOf}
 use Rattle.print.proofs.Sizes.{body-four, text-size}
-
--- "`%` multiplies by 100, `‰` by 1000"
-factor-most : (h : Half) → factorOf h ≤ 1000
-factor-most h =
-    choice (λ (n : ℕ). n ≤ 1000) (ltb 0 (h .percents)) (λ k. omega arith)
-    (λ k. choice (λ (n : ℕ). n ≤ 1000) (ltb 0 (h .permilles)) (λ l. omega arith) (λ l. omega arith))
-
-verdict-factor : (s : List ℕ) {r : PatternReading} → Verdict s r → (p : Pattern) → r ≡ PatternIs p → p .factor ≤ 1000
-verdict-factor s (too-long h) p e = not-read _ p e
-verdict-factor s (not-utf8 h u) p e = not-read _ p e
-verdict-factor s (reserved h u a) p e = not-read _ p e
-verdict-factor s (not-a-pattern q f) p e = not-read _ p e
-verdict-factor s (many-places q w m) p e = not-read _ p e
-verdict-factor s (large-step q w m o) p e = not-read _ p e
-verdict-factor s (many-marks q w m o k) p e = not-read _ p e
-verdict-factor s (other-marks q w m o k d) p e = not-read _ p e
-verdict-factor s (read q w m o k d) p e =
-    let same : patternOf (halfOf s) (negativeOf s) ≡ p = cc in
-    subst (λ (x : Pattern). x .factor ≤ 1000) same (factor-most (halfOf s))
 
 read-short : (s : List ℕ) (p : Pattern) → readPattern s ≡ PatternIs p → length s ≤ maxBytes
 read-short s p e = tested (ltb maxBytes (length s)) (λ k. not-read _ p (rw k at e)) (λ k. ltb-false maxBytes (length s) k)
@@ -71,7 +49,7 @@ ready-within s t p n ep en =
     (record {
       step-least = b .step-least;
       step-most = b .step-most;
-      factor-most = verdict-factor s (verdict-found s) p ep;
+      factor-most = read-factor s p ep;
       most-most = b .most-most;
       integer-most = omega (arith, a .whole);
       places-most = a .places;
