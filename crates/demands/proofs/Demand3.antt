@@ -26,8 +26,8 @@ use Rattle.number.proofs.Admissible.{admitted, four-numbers}
 use Rattle.rules.specs.Syntax.{Rule}
 use Rattle.grammar.specs.Reader.{PackAnswer, readPack, segments}
 use Rattle.grammar.specs.Reader.PackAnswer.{Rules, Refused as PackRefused}
-use Rattle.grammar.specs.Segment.{segmentRule}
-use Rattle.grammar.proofs.Shuffle.{perm-rules, shuffle as read-shuffle, larger as read-larger}
+use Rattle.grammar.specs.Segment.{AreRules}
+use Rattle.grammar.proofs.Shuffle.{segmentRule, perm-rules, rules-are, added-rules as read-added, shuffle as read-shuffle, larger as read-larger}
 use Rattle.plural.specs.Meaning.{meets}
 use Rattle.plural.specs.Select.{metBy, countMet, firstMet, secondMet, keywordAt, selection}
 use Rattle.plural.specs.Words.{MeetsAt}
@@ -131,12 +131,19 @@ shuffled pack other d p =
 
 -- ---- (d) "if a larger pack passes too, every admitted number keeps its word, except that one which had "other" and meets an added rule has that rule's word"
 
-pub grown : (smaller : List ℕ) (added : List (List ℕ)) (larger number : List ℕ) → Larger smaller added larger → Passed smaller → Passed larger
-    → Grown smaller larger number (map segmentRule added)
-grown smaller added larger number d p q =
+-- the added segments are rules
+pub added-rules : (smaller : List ℕ) (added : List (List ℕ)) (larger : List ℕ) → Larger smaller added larger → Passed larger → (rules : List Rule) × AreRules added rules
+added-rules smaller added larger d q =
+    let b = passed-rules larger q in
+    (map segmentRule added, read-added smaller larger added (b .0) d (b .1 .0))
+
+pub grown : (smaller : List ℕ) (added : List (List ℕ)) (larger number : List ℕ) (rules : List Rule) → Larger smaller added larger → AreRules added rules
+    → Passed smaller → Passed larger → Grown smaller larger number rules
+grown smaller added larger number rules d r p q =
     let a = passed-rules smaller p in
     let b = passed-rules larger q in
-    by (a .0) (b .0) (a .1 .0) (b .1 .0) (a .1 .1) (b .1 .1) (read-larger smaller larger added (a .0) (b .0) d (a .1 .0) (b .1 .0)) (readNumber number) refl
+    subst (Grown smaller larger number) (sym (rules-are r))
+    (by (a .0) (b .0) (a .1 .0) (b .1 .0) (a .1 .1) (b .1 .1) (read-larger smaller larger added (a .0) (b .0) d (a .1 .0) (b .1 .0)) (readNumber number) refl)
   where
     by : (rs qs : List Rule) → readPack smaller ≡ Rules rs → readPack larger ≡ Rules qs → AllApart rs → AllApart qs → List·Permᴰ (rs ++ map segmentRule added) qs
         → (r : Reading) → readNumber number ≡ r → Grown smaller larger number (map segmentRule added)

@@ -1,7 +1,7 @@
 -- What a pack that is read gives: the rule of each segment. So a shuffle of it is read too, and a larger pack's rules are its own and the added ones.
 use mathlib.Core.Path.{_≡_, refl, sym, ap, _∙_}
 use mathlib.Core.Bool.{Bool, true, false, not}
-use mathlib.Core.List.{List, [], _∷_, _++_, map, List·Permᴰ, List·Permᴰ·nil, List·Permᴰ·cons, List·Permᴰ·swap, List·Permᴰ·trans}
+use mathlib.Core.List.{List, [], _∷_, _++_, map, List·Permᴰ, List·Permᴰ·nil, List·Permᴰ·cons, List·Permᴰ·swap, List·Permᴰ·trans, Permᴰ·symm}
 use Prim.Native.Nat.{ℕ, suc, _+_, _≤_, _<_}
 use native.Mathlib.Omega.{arith}
 use lib.Dec.{eqb, ltb}
@@ -11,11 +11,12 @@ use Rattle.decimal.specs.Split.{onFirst}
 use Rattle.decimal.specs.Choice.{if_then_else_, both}
 use Rattle.token.specs.Spelling.{same, among}
 use Rattle.grammar.specs.Grammar.{Text, all, RuleTree, ofRule, rightRule}
+use Rattle.grammar.specs.Grammar.RuleTree.{Bare}
 use Rattle.grammar.specs.Steps.{steps, Read, ends}
 use Rattle.grammar.specs.Steps.State.{WantsName}
 use Rattle.grammar.specs.Steps.Read.{Whole, Cut}
 use Rattle.grammar.specs.Limits.{maxBytes}
-use Rattle.grammar.specs.Segment.{words, orAny, readOf, treeOf, segmentRule}
+use Rattle.grammar.specs.Segment.{words, IsRule, AreRules, none, more}
 use Rattle.token.specs.Token.{tokens}
 use Rattle.grammar.specs.Reader.{segments, Stop, stop, Fault, faultIn, again, keywordIn, Parsed, andThen, rulesFrom, faultFrom, judge, readPack}
 use Rattle.grammar.specs.Reader.Stop.{Fine, Stuck}
@@ -27,8 +28,24 @@ use Rattle.answer.specs.declared.Refusal.the-variants.{PackTooLong}
 use Rattle.rules.specs.Syntax.{Rule}
 use Rattle.token.proofs.Spellings.{both-0, both-1, both-in}
 use Rattle.grammar.proofs.Laws.{no-way, map-append}
+use Rattle.grammar.proofs.Sound.{sound}
 use Rattle.grammar.proofs.Complete.{complete}
 use Rattle.grammar.proofs.Places.{words-at, fine-whole, whole-fine, clean, or-0, or-1, none-clean, clean-none, firstOf, keyword-first, fresh, again-fresh, fresh-again}
+
+-- what a segment's tokens are read as: a rule's tree, or none
+abbrev pub readOf : Text → Read
+readOf x = ends (steps WantsName (words x))
+
+-- a pack that is read has no segment without a rule; for one without, any tree serves
+abbrev orAny : Read → RuleTree
+orAny (Whole r) = r
+orAny Cut = Bare []
+
+abbrev pub treeOf : Text → RuleTree
+treeOf x = orAny (readOf x)
+
+abbrev pub segmentRule : Text → Rule
+segmentRule x = ruleOf (treeOf x)
 
 abbrev isWhole : Read → Bool
 isWhole (Whole r) = true
@@ -225,6 +242,25 @@ is-fine false (Trees qs) (At n a) rs e = absurd (let z : _≡_ {A = ℕ} 0 1 = c
 pub segment-rule : (x : Text) (r : RuleTree) → rightRule r ≡ true → words x ≡ ofRule r → segmentRule x ≡ ruleOf r
 segment-rule x r g e = ap (λ (l : List Text). ruleOf (orAny (ends (steps WantsName l)))) e ∙ ap (λ (q : Read). ruleOf (orAny q)) (complete r g)
 
+-- the rules of segments are those that they are read as
+pub rules-are : {xs : List Text} {rs : List Rule} → AreRules xs rs → rs ≡ map segmentRule xs
+rules-are none = refl
+rules-are (more {x = x} {r = r} {xs = xs} {rs = rs} w d) =
+    ap (λ (q : Rule). q ∷ rs) (w .stands-for ∙ sym (segment-rule x (w .tree) (w .right) (w .tokens-are)))
+    ∙ ap (λ (l : List Rule). segmentRule x ∷ l) (rules-are d)
+
+-- segments without a fault are rules
+are-rules : (xs : List Text) → all good xs ≡ true → AreRules xs (map segmentRule xs)
+are-rules [] g = none
+are-rules (x ∷ xs) g =
+    let w = both-0 (isWhole (readOf x)) (clean WantsName (words x)) (both-0 (good x) (all good xs) g) in
+    let h = sound (words x) (treeOf x) (whole-or (readOf x) w) in
+    more (record { tree = treeOf x; right = h .1; tokens-are = h .0; stands-for = refl }) (are-rules xs (both-1 (good x) (all good xs) g))
+
+good-behind : (xs ys : List Text) → all good (xs ++ ys) ≡ true → all good ys ≡ true
+good-behind [] ys g = g
+good-behind (x ∷ xs) ys g = good-behind xs ys (both-1 (good x) (all good (xs ++ ys)) g)
+
 map-map : (xs : List Text) → map ruleOf (map treeOf xs) ≡ map segmentRule xs
 map-map [] = refl
 map-map (x ∷ xs) = ap (λ (l : List Rule). segmentRule x ∷ l) (map-map xs)
@@ -284,3 +320,8 @@ larger s t added rs qs d e f =
     let a = own-rules s rs e .rules in
     let b = own-rules t qs f .rules in
     rw (a, b, ← (map-append segmentRule (segments s) added)) (perm-rules d)
+
+-- the segments added to make a larger pack that is read are rules
+pub added-rules : (s t : Text) (added : List Text) (qs : List Rule) → List·Permᴰ (segments s ++ added) (segments t) → readPack t ≡ Rules qs
+    → AreRules added (map segmentRule added)
+added-rules s t added qs d e = are-rules added (good-behind (segments s) added (perm-good (Permᴰ·symm d) (own-rules t qs e .goods)))

@@ -1,32 +1,25 @@
--- The rule of a segment, by its bytes alone: what stands between two semicolons or the pack's ends is read by itself.
-use mathlib.Core.List.{List, []}
+-- The rule that a segment's bytes are, by themselves: what stands between two semicolons or the pack's ends.
+use mathlib.Core.Path.{_≡_}
+use mathlib.Core.Bool.{true}
+use mathlib.Core.List.{List, [], _∷_}
 use Rattle.rules.specs.Syntax.{Rule}
 use Rattle.token.specs.Token.{tokens}
-use Rattle.grammar.specs.Grammar.{Text, RuleTree}
-use Rattle.grammar.specs.Grammar.RuleTree.{Bare}
+use Rattle.grammar.specs.Grammar.{Text, RuleTree, ofRule, rightRule}
 use Rattle.grammar.specs.RuleOf.{ruleOf}
 use Rattle.grammar.specs.WellFormed.{texts}
-use Rattle.grammar.specs.Steps.{steps, Read, ends}
-use Rattle.grammar.specs.Steps.State.{WantsName}
-use Rattle.grammar.specs.Steps.Read.{Whole, Cut}
 
 -- the tokens of a segment, without their places
 abbrev pub words : Text → List Text
 words x = texts (tokens 0 x)
 
--- what they are read as: a rule's tree, or none
-abbrev pub readOf : Text → Read
-readOf x = ends (steps WantsName (words x))
+-- its tokens are those of a right tree, and this is the rule that the tree stands for
+pub record IsRule (x : Text) (r : Rule) : Type 0 where
+  pub tree : RuleTree
+  pub right : rightRule tree ≡ true
+  pub tokens-are : words x ≡ ofRule tree
+  pub stands-for : r ≡ ruleOf tree
 
--- a pack that is read has no segment without a rule; for one without, any tree serves
-abbrev pub orAny : Read → RuleTree
-orAny (Whole r) = r
-orAny Cut = Bare []
-
-abbrev pub treeOf : Text → RuleTree
-treeOf x = orAny (readOf x)
-
--- the rule that the segment's tree stands for. Of a segment whose tokens are those of a right rule it is that rule's (`segment-rule`,
--- proofs/Shuffle.antt).
-abbrev pub segmentRule : Text → Rule
-segmentRule x = ruleOf (treeOf x)
+-- segments and their rules, in their order
+pub data AreRules : List Text → List Rule → Type 0 where
+  none : AreRules [] []
+  more : {x : Text} {r : Rule} {xs : List Text} {rs : List Rule} → IsRule x r → AreRules xs rs → AreRules (x ∷ xs) (r ∷ rs)

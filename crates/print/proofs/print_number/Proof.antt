@@ -23,7 +23,7 @@ slice-aggregate-print-digits c = search needs
 
 print-digits-requires : tie.Need-print-digits-requires
 print-digits-requires c κs =
-    let s = c .before .before .before .before .before .before .before .before .before .before .before .before .before in
+    let s = c .before .before .before .before .before .before .before .before .before .before .before .before in
     let r = c .before .before .before .round-into in
     let e : r .last .0 ≡ digitsOf (s .args .p) (s .args .n) = digits-are (s .args .p) (s .args .n) (figures width 0) (r .last .0) refl (s .pre .0) (r .ensures .1) in
     rw e (s .pre .1)
@@ -33,11 +33,11 @@ same-length c = search needs
 
 returns-2 : tie.Need-returns-2
 returns-2 c =
-    let s = c .before .before .before .before .before .before .before .before .before .before .before .before .before .before .before .before in
+    let s = c .before .before .before .before .before .before .before .before .before .before .before .before .before .before .before in
     let r = c .before .before .before .before .before .before .round-into in
     let e : r .last .0 ≡ digitsOf (s .args .p) (s .args .n) = digits-are (s .args .p) (s .args .n) (figures width 0) (r .last .0) refl (s .pre .0) (r .ensures .1) in
     let x = rw e at (c .before .before .print-digits .ensures) in
-    (rw (le-ltb _ _ (c .before .before .before .before .before .before .before .before .before .before .before .if1 .left)) (x .0), rw (le-ltb _ _ (c .before .before .before .before .before .before .before .before .before .before .before .if1 .left)) (x .1))
+    (rw (le-ltb _ _ (c .before .before .before .before .before .before .before .before .before .before .if1 .left)) (x .0), rw (le-ltb _ _ (c .before .before .before .before .before .before .before .before .before .before .if1 .left)) (x .1))
 
 pub print-number-spec : {M : Type 1} → statement M
 print-number-spec =
