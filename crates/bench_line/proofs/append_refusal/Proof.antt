@@ -42,8 +42,7 @@ returns : tie.Need-returns
 returns c =
     let w = c .before .before .before .before .before .before .before .before .before .before .before .before .wide .ensures in
     let n = c .before .before .before .before .before .before .before .before .before .before .before .before .before .number .ensures in
-    let g = c .before .before .before .before .before .before .before .figures in
-    let f = figures-told (g .result) (c .before .before .before .before .before .before .before .before .before .before .before .before .before .before .before .before .before .before .before .before .before .before .before .before .args .refusal) (g .ensures) in
+    let f = figures-told (c .before .before .before .before .before .before .before .figures .result) (c .before .before .before .before .before .before .before .before .before .before .before .before .before .before .before .before .before .before .before .before .before .before .before .before .args .refusal) (c .before .before .before .before .before .before .before .figures .ensures) in
     let p1 = c .before .before .before .before .before .before .before .before .before .before .before .before .before .before .before .before .before .before .before .before .before .put .ensures in
     let p2 = c .before .before .before .before .before .before .before .before .before .before .before .before .before .before .before .before .before .put2 .ensures in
     let p3 = renamed (ap (λ (k : ℕ). 32 ∷ numeral k) (w ∙ n)) (c .before .before .before .before .before .before .before .before .before .before .before .append-spaced .ensures) in
