@@ -106,10 +106,10 @@ digits-shown least fraction most d a h hf =
       fraction-digits = digits-take j f af;
       worth = rw lf at (kept-value least fraction w f) ∙ ap value (take-append-drop n d);
       whole-least = omega (arith, length-drop m w, lead-le w);
-      whole-spare = whole-first least w (omega arith);
+      whole-spare = λ k. whole-first least w (omega arith) (omega arith);
       fraction-least = omega (arith, length-take j f);
       fraction-most = omega (arith, length-take j f);
-      fraction-spare = fraction-last fraction f af;
+      fraction-spare = λ k. fraction-last fraction f af (omega arith);
     }
 
 -- ---- and no others are
