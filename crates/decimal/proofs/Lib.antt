@@ -4,3 +4,4 @@ pub mod Values
 pub mod Zeros
 pub mod Figured
 pub mod Splits
+pub mod Unique

@@ -2,41 +2,26 @@
 -- rounded once, ties to the even multiple. A refusal comes exactly where the table calls for it." Of the last sentence both directions stand in
 -- proofs/Given.antt and, for the entries' codes and figures, in proofs/Demand1.antt.
 use mathlib.Core.Path.{_≡_, refl, sym, ap, _∙_, subst}
-use mathlib.Core.List.{List, [], _∷_, _++_}
+use mathlib.Core.List.{List}
 use mathlib.Core.Logic.{_↔_}
-use Prim.Native.Nat.{ℕ, _≤_}
-use lib.ListN.{length, drop}
+use Prim.Native.Nat.{ℕ}
+use lib.ListN.{length}
 use Rattle.decimal.proofs.Choices.{never}
 use Rattle.answer.specs.declared.Keyword.{Keyword}
-use Rattle.number.specs.declared.Number.{Number}
-use Rattle.number.specs.declared.Reading.the-variants.{Is as NumberIs}
-use Rattle.rules.specs.Syntax.{Rule}
-use Rattle.grammar.specs.Reader.PackAnswer.{Rules}
 use Rattle.plural.specs.Words.{Chosen}
 use Rattle.plural.specs.declared.Selection.{Selection}
 use Rattle.plural.specs.declared.Selection.the-variants.{Word}
 use Rattle.select.specs.Select.{selectOf}
-use Rattle.symbols_grammar.proofs.Records.{verdict-given as symbols-given}
-use Rattle.pattern.specs.declared.Pattern.{Pattern}
-use Rattle.pattern_grammar.proofs.Verdicts.{verdict-given as pattern-given}
 use Rattle.print.specs.declared.Printed.{Printed}
 use Rattle.print.specs.declared.Printed.the-variants.{Text}
 use Rattle.print.specs.Outcome.{outcome, answerOf, areaOf}
-use Rattle.print.proofs.Theorems.{PrintedValue, printed-value}
-use Rattle.demands.specs.Verdicts.{NumberVerdict, PackVerdict, SelectVerdict, Printable, PrintVerdict}
+use Rattle.demands.specs.Verdicts.{SelectVerdict, PrintVerdict}
 use Rattle.demands.specs.Verdicts.SelectVerdict.{by-pack, by-number, chosen}
 use Rattle.demands.specs.Verdicts.PrintVerdict.{by-symbols, by-pattern, by-number as print-by-number, by-exponent, too-short, prints}
-use Rattle.demands.proofs.Given.{number-given, select-given, select-found, print-given, print-found}
+use Rattle.demands.specs.Answers.{TheWord, TheText}
+use Rattle.demands.proofs.Given.{select-given, select-found, print-given, print-found}
 
--- ---- the word: of a pack and a number that are read, by the rules that the number meets
-
-pub record TheWord (pack number : List ℕ) (k : Keyword) : Type 0 where
-  pub rules : List Rule
-  pub operands : Number
-  pub pack-read : PackVerdict pack (Rules rules)
-  pub number-read : NumberVerdict number (NumberIs operands)
-  -- the keyword of the one rule met, or `other` where none is
-  pub is-word : Chosen operands rules (Word k)
+-- ---- the word
 
 pub the-word : (pack number : List ℕ) (k : Keyword) → (selectOf pack number ≡ Word k) ↔ TheWord pack number k
 the-word pack number k = (λ e. only (select-found pack number) e, from)
@@ -49,28 +34,12 @@ the-word pack number k = (λ e. only (select-found pack number) e, from)
     from : TheWord pack number k → selectOf pack number ≡ Word k
     from w = select-given pack number (chosen (w .rules) (w .operands) (Word k) (w .pack-read) (w .number-read) (w .is-word))
 
--- ---- the text: of symbols, a pattern and a number that are read, whole at the area's front, and no byte beyond
-
-pub record TheText (house s t area after : List ℕ) (n : ℕ) : Type 0 where
-  pub pattern : Pattern
-  pub operands : Number
-  pub text : List ℕ
-  pub is-text : Printable house s t pattern operands text
-  pub size : n ≡ length text
-  pub fits : length text ≤ length area
-  pub area-after : after ≡ text ++ drop (length text) area
-  -- its digits are those of the permitted value nearest to the exact one
-  pub value : PrintedValue pattern operands
+-- ---- the text
 
 pub the-text : (house s t area : List ℕ) (n : ℕ)
     → (answerOf (outcome house s t) area ≡ Text n) ↔ TheText house s t area (areaOf (outcome house s t) area) n
 the-text house s t area n = (λ e. only (print-found house s t area) e, from)
   where
-    worth : {p : Pattern} {x : Number} {text : List ℕ} → Printable house s t p x text → PrintedValue p x
-    worth {p} {x} w =
-        printed-value house s t p x
-        (record { symbols = symbols-given house (w .symbols); pattern = pattern-given s (w .pattern); number = number-given t (w .number) })
-
     only : {r : Printed} {after : List ℕ} → PrintVerdict house s t area r after → r ≡ Text n → TheText house s t area after n
     only (by-symbols r y) e = never (cc)
     only (by-pattern r y p) e = never (cc)
@@ -79,7 +48,7 @@ the-text house s t area n = (λ e. only (print-found house s t area) e, from)
     only (too-short p x text w h) e = never (cc)
     only (prints p x text w h) e =
         let k : length text ≡ n = cc in
-        record { pattern = p; operands = x; text = text; is-text = w; size = sym k; fits = h; area-after = refl; value = worth w }
+        record { pattern = p; operands = x; text = text; is-text = w; size = sym k; fits = h; area-after = refl }
 
     from : TheText house s t area (areaOf (outcome house s t) area) n → answerOf (outcome house s t) area ≡ Text n
     from w = print-given house s t area (prints (w .pattern) (w .operands) (w .text) (w .is-text) (w .fits)) .0 ∙ ap Text (sym (w .size))

@@ -61,6 +61,7 @@ use Rattle.print.specs.Outcome.Outcome.{text as ToText, refused as ToRefuse}
 use Rattle.print.specs.Claims.{Read, Verdict}
 use Rattle.print.specs.Claims.Verdict.{by-symbols as outcome-by-symbols, by-pattern as outcome-by-pattern, by-number as outcome-by-number, by-exponent as outcome-by-exponent, prints as outcome-prints}
 use Rattle.print.proofs.Theorems.{verdict-found, verdict-only}
+use Rattle.print.proofs.Texts.{printed-text}
 use Rattle.demands.specs.Verdicts.{NumberVerdict, PackVerdict, SelectVerdict, CheckVerdict, Printable, PrintVerdict}
 use Rattle.demands.specs.Verdicts.NumberVerdict.{row, read}
 use Rattle.demands.specs.Verdicts.PackVerdict.{too-long, not-a-pack, faulty, read as read-pack}
@@ -255,8 +256,9 @@ check-found pack = by-answer (readPack pack) refl
 module _ (house s t area : List ℕ) where
   printable : (p : Pattern) (n : Operands) (text : List ℕ) → Printable house s t p n text → outcome house s t ≡ ToText text
   printable p n text w =
-      sym (verdict-only house s t (outcome-prints p n (record { symbols = symbols-given house (w .symbols); pattern = pattern-given s (w .pattern); number = number-given t (w .number) }) (w .no-exponent)))
-      ∙ ap ToText (sym (w .is-text))
+      let x : Read house s t p n = record { symbols = symbols-given house (w .symbols); pattern = pattern-given s (w .pattern); number = number-given t (w .number) } in
+      sym (verdict-only house s t (outcome-prints p n x (w .no-exponent)))
+      ∙ ap ToText (sym (printed-text s t p n (x .pattern) (x .number) (symbolIn house standardRecord) text .0 (w .is-text)))
 
   pub print-given : {r : Printed} {after : List ℕ} → PrintVerdict house s t area r after
       → (answerOf (outcome house s t) area ≡ r) × (areaOf (outcome house s t) area ≡ after)
@@ -303,7 +305,7 @@ module _ (house s t area : List ℕ) where
         pattern = subst (PatternVerdict s) (x .pattern) (pattern-found s);
         number = subst (NumberVerdict t) (x .number) (number-found t);
         no-exponent = h;
-        is-text = refl;
+        is-text = printed-text s t p n (x .pattern) (x .number) (symbolIn house standardRecord) (textOf (symbolIn house standardRecord) s p n) .1 refl;
       })
 
   pub print-found : PrintVerdict house s t area (answerOf (outcome house s t) area) (areaOf (outcome house s t) area)

@@ -1,3 +1,4 @@
 pub mod Verdicts
+pub mod Answers
 pub mod Comes
 pub mod Packs

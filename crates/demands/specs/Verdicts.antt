@@ -36,7 +36,7 @@ use Rattle.symbols_grammar.specs.Record.{Verdict as SymbolsVerdict}
 use Rattle.pattern.specs.declared.Pattern.{Pattern}
 use Rattle.pattern.specs.declared.PatternReading.the-variants.{Is as PatternIs, Refused as PatternRefused}
 use Rattle.pattern_grammar.specs.Verdict.{Verdict as PatternVerdict}
-use Rattle.layout.specs.Text.{textOf}
+use Rattle.print.specs.Text.{PrintedText}
 use Rattle.print.specs.declared.Printed.{Printed}
 use Rattle.print.specs.declared.Printed.the-variants.{Text, Refused as PrintRefused}
 
@@ -84,7 +84,7 @@ pub record Printable (house s t : List ℕ) (p : Pattern) (n : Number) (text : L
   pub pattern : PatternVerdict s (PatternIs p)
   pub number : NumberVerdict t (NumberIs n)
   pub no-exponent : n .e ≡ 0
-  pub is-text : text ≡ textOf (symbolIn house standardRecord) s p n
+  pub is-text : PrintedText (symbolIn house standardRecord) s p n text
 
 pub data PrintVerdict (house s t area : List ℕ) : Printed → List ℕ → Type 0 where
   by-symbols : (r : Refusal) → SymbolsVerdict house (SymbolsRefused r) → PrintVerdict house s t area (PrintRefused r) area

@@ -3,17 +3,20 @@ use mathlib.Core.Path.{_≡_, refl, sym, ap, _∙_}
 use mathlib.Core.Bool.{Bool, true, false}
 use mathlib.Core.List.{List, [], _∷_, _++_}
 use mathlib.Core.Logic.{_⊎_, ⊎-elim}
-use Prim.Native.Nat.{ℕ, zero, suc, _+_, _*_, _-_, _%_, _^_, _≤_, _<_, min, max}
+use Prim.Native.Nat.{ℕ, zero, suc, _+_, _*_, _-_, _/_, _%_, _^_, _≤_, _<_, min, max}
 use native.Mathlib.Omega.{arith}
-use native.Mathlib.Nat.{pow-succ', mul-one}
+use native.Mathlib.Nat.{pow-succ', mul-one, mul-le-mul-right}
 use borrow.Author.Tests.{eqb-true}
+use lib.Arith.{digits-div, digits-mod}
 use lib.Dec.{eqb}
+use lib.Pow.{pow-add}
 use lib.ListN.{length, getD, take, drop, length-take, length-drop, take-append-drop}
 use Rattle.decimal.specs.Choice.{if_then_else_}
 use Rattle.decimal.specs.Digits.{AllDigits, valueFrom, value, lead, shown, keep, trim}
 use Rattle.decimal.proofs.Runs.{digits-take, digits-drop}
-use Rattle.decimal.proofs.Values.{value-append}
+use Rattle.decimal.proofs.Values.{power-pos, value-append, value-from, value-lt}
 use Rattle.decimal.proofs.Zeros.{lead-le, lead-stop, value-shown, trim-front, trim-last}
+use Rattle.decimal.proofs.Unique.{power-cancel, same-digits, longer-leads, longer-trails}
 use Rattle.layout.specs.Layout.{wholeDigits, kept, fractionDigits}
 use Rattle.layout.specs.Claims.{ShownDigits}
 
@@ -103,8 +106,46 @@ digits-shown least fraction most d a h hf =
       fraction-digits = digits-take j f af;
       worth = rw lf at (kept-value least fraction w f) ∙ ap value (take-append-drop n d);
       whole-least = omega (arith, length-drop m w, lead-le w);
-      whole-spare = whole-first least w (omega arith);
+      whole-spare = λ k. whole-first least w (omega arith) (omega arith);
       fraction-least = omega (arith, length-take j f);
       fraction-most = omega (arith, length-take j f);
-      fraction-spare = fraction-last fraction f af;
+      fraction-spare = λ k. fraction-last fraction f af (omega arith);
     }
+
+-- ---- and no others are
+
+module _ {least fraction most units : ℕ} {w f : List ℕ} (x : ShownDigits least fraction most units w f) where
+  -- the value is the integer digits' times ten to the fraction places, and the fraction's, which is less than that
+  shown-parts : (value w ≡ units / 10 ^ most) × (value f * 10 ^ (most - length f) ≡ units % 10 ^ most)
+  shown-parts =
+      let a = 10 ^ length f in
+      let b = 10 ^ (most - length f) in
+      let l : length f + (most - length f) ≡ most = omega (arith, x .fraction-most) in
+      let m : 10 ^ most ≡ a * b = rw l at (pow-add 10 (length f) (most - length f)) in
+      let v : value (w ++ f) ≡ value w * a + value f = value-append 0 w f ∙ value-from (value w) f in
+      let u : units ≡ value w * (a * b) + value f * b = sym (x .worth) ∙ rw v (omega arith) in
+      let k : value f * b < a * b = omega (arith, mul-le-mul-right b (value-lt f (x .fraction-digits)), power-pos (most - length f)) in
+      rw (u, m) (sym (digits-div (value w) k), sym (digits-mod (value w) k))
+
+module _ {least fraction most units : ℕ} {w f w′ f′ : List ℕ} (x : ShownDigits least fraction most units w f) (y : ShownDigits least fraction most units w′ f′) where
+  same-whole : value w ≡ value w′
+  same-whole = shown-parts x .0 ∙ sym (shown-parts y .0)
+
+  same-fraction : value f * 10 ^ (most - length f) ≡ value f′ * 10 ^ (most - length f′)
+  same-fraction = shown-parts x .1 ∙ sym (shown-parts y .1)
+
+  whole-not-longer : length w < length w′ → ⊥
+  whole-not-longer h =
+      y .whole-spare (omega (arith, x .whole-least)) (longer-leads w w′ (x .whole-digits) (y .whole-digits) same-whole h)
+
+  fraction-not-longer : length f < length f′ → ⊥
+  fraction-not-longer h =
+      y .fraction-spare (omega (arith, x .fraction-least)) (longer-trails f f′ most same-fraction h (y .fraction-most))
+
+pub shown-only : {least fraction most units : ℕ} {w f w′ f′ : List ℕ} → ShownDigits least fraction most units w f → ShownDigits least fraction most units w′ f′
+    → (w ≡ w′) × (f ≡ f′)
+shown-only {most = most} {w = w} {f = f} {w′ = w′} {f′ = f′} x y =
+    let m : length w ≡ length w′ = omega (arith, whole-not-longer x y, whole-not-longer y x) in
+    let n : length f ≡ length f′ = omega (arith, fraction-not-longer x y, fraction-not-longer y x) in
+    let e : value f ≡ value f′ = power-cancel (value f) (value f′) (most - length f′) (rw n at (same-fraction x y)) in
+    (same-digits w w′ (x .whole-digits) (y .whole-digits) m (same-whole x y), same-digits f f′ (x .fraction-digits) (y .fraction-digits) n e)

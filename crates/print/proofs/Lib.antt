@@ -1,3 +1,7 @@
 pub mod Sizes
 pub mod Ready
+pub mod ReadPlain
+pub mod Cuts
+pub mod Affixes
+pub mod Texts
 pub mod Theorems

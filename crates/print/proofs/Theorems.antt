@@ -1,14 +1,12 @@
--- Theorems of printing: which outcome is given when, the value of the digits shown, what the area holds, and 51's figure.
+-- Theorems of printing: which outcome is given when, what the area holds, and 51's figure.
 use mathlib.Core.Path.{_≡_, refl, sym}
 use mathlib.Core.List.{List, _++_}
-use Prim.Native.Nat.{ℕ, _+_, _≤_, _<_}
+use Prim.Native.Nat.{ℕ, _≤_, _<_}
 use native.Mathlib.Omega.{arith}
 use borrow.Author.Tests.{lt-ltb, ltb-true, ltb-false}
 use lib.Dec.{ltb}
 use lib.ListN.{length, drop}
-use Rattle.decimal.specs.Digits.{value}
 use Rattle.decimal.proofs.Choices.{tested, choice, never}
-use Rattle.decimal.proofs.Figured.{length-figures, digits-figures}
 use Rattle.answer.specs.declared.Refusal.{Refusal}
 use Rattle.answer.specs.declared.Refusal.the-variants.{AreaTooShort}
 use Rattle.symbols.specs.declared.Judged.{Judged}
@@ -18,23 +16,13 @@ use Rattle.pattern.specs.declared.Pattern.{Pattern}
 use Rattle.pattern.specs.declared.PatternReading.{PatternReading}
 use Rattle.pattern.specs.declared.PatternReading.the-variants.{Is as PatternIs, Refused as PatternRefused}
 use Rattle.pattern.specs.Reading.{readPattern}
-use Rattle.pattern_grammar.proofs.Bounds.{read-bounds}
 use Rattle.number.specs.declared.Number.{Number}
 use Rattle.number.specs.declared.Reading.{Reading}
 use Rattle.number.specs.declared.Reading.the-variants.{Is as NumberIs, Refused as NumberRefused}
 use Rattle.number.specs.Reading.{readNumber}
-use Rattle.rounding.specs.Nearest.{unitsOf, Permitted}
-use Rattle.rounding.specs.Limits.{width}
-use Rattle.rounding.proofs.Nearest.{units-permitted}
-use Rattle.rounding.proofs.Arithmetic.{within-fits, units-room, value-room}
-use Rattle.layout.specs.Layout.{wholeDigits, fractionDigits}
-use Rattle.layout.specs.Text.{digitsOf}
-use Rattle.layout.specs.Claims.{ShownDigits}
-use Rattle.layout.proofs.Shown.{digits-shown}
 use Rattle.print.specs.declared.Printed.the-variants.{Text, Refused}
 use Rattle.print.specs.Outcome.{Outcome, text, refused, ofNumber, afterNumber, afterPattern, afterSymbols, outcome, tooLong, answerOf, areaOf}
 use Rattle.print.specs.Claims.{Read, Verdict, by-symbols, by-pattern, by-number, by-exponent, prints}
-use Rattle.print.proofs.Ready.{ready-within}
 
 -- ---- "Printing tests symbols, pattern, number, 50": every outcome has its reason
 
@@ -68,30 +56,6 @@ verdict-only house s t (by-pattern r e f) = rw (e, f)
 verdict-only house s t (by-number r p e f g) = rw (e, f, g)
 verdict-only house s t (by-exponent p n x h) = rw (x .symbols, x .pattern, x .number, lt-ltb 0 (n .e) h)
 verdict-only house s t (prints p n x h) = rw (x .symbols, x .pattern, x .number, h)
-
--- ---- demand 2's value: the digits of the text are those of the permitted value nearest to the exact one
-
-pub record PrintedValue (p : Pattern) (n : Number) : Type 0 where
-  pub units : ℕ
-  -- a whole multiple of the step, none nearer, a tie at the even one
-  pub permitted : Permitted (p .step) (p .factor) (p .most) (n .i) (n .v .0) (n .f .0) units
-  -- and the digits shown are its
-  pub shown-digits : ShownDigits (p .least) (p .fraction) (p .most) units (wholeDigits (p .least) (p .most) (digitsOf p n)) (fractionDigits (p .fraction) (p .most) (digitsOf p n))
-
-pub printed-value : (house s t : List ℕ) (p : Pattern) (n : Number) → Read house s t p n → PrintedValue p n
-printed-value house s t p n x =
-    let b = read-bounds s p (x .pattern) in
-    let u = unitsOf (p .step) (p .factor) (p .most) (n .i) (n .v .0) (n .f .0) in
-    let fits = within-fits (p .step) (p .factor) (p .most) (n .i) (n .v .0) (n .f .0) (ready-within s t p n (x .pattern) (x .number)) in
-    let worth : value (digitsOf p n) ≡ u = value-room width u (units-room (p .step) (p .factor) (p .most) (n .i) (n .v .0) (n .f .0) fits) in
-    record {
-      units = u;
-      permitted = units-permitted (p .step) (p .factor) (p .most) (n .i) (n .v .0) (n .f .0) (b .step-least);
-      shown-digits = rw worth at (digits-shown (p .least) (p .fraction) (p .most) (digitsOf p n) (digits-figures width u) (room p n u (b .least-most) (b .most-most)) (b .fraction-most));
-    }
-  where
-    room : (p : Pattern) (n : Number) (u : ℕ) → p .least ≤ 15 → p .most ≤ 9 → p .least + p .most ≤ length (digitsOf p n)
-    room q m u h k = rw (length-figures width (unitsOf (q .step) (q .factor) (q .most) (m .i) (m .v .0) (m .f .0))) (omega arith)
 
 -- ---- the area: "A refusal writes nothing; a success writes its text at the front and no byte beyond, and returns its length."
 

@@ -1,3 +1,3 @@
 pub mod Outcome
 pub mod Claims
-pub mod Rows
+pub mod Text
