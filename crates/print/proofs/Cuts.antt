@@ -28,8 +28,7 @@ use Rattle.pattern_grammar.specs.Grammar.{IsAffix, IsSub, IsPattern, one, two}
 use Rattle.pattern_grammar.specs.Texts.{textAt, Affixes}
 use Rattle.pattern_grammar.proofs.Affixes.{stops, affix-found}
 use Rattle.pattern_grammar.proofs.Subpatterns.{ends, read-sub}
-use Rattle.pattern_grammar.proofs.Texts.{one-read, two-read}
-use Rattle.print.proofs.ReadPlain.{read-plain}
+use Rattle.pattern_grammar.proofs.Texts.{read-plain, one-read, two-read}
 
 -- ---- a text before a number part, a semicolon or the end
 

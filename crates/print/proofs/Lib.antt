@@ -1,6 +1,5 @@
 pub mod Sizes
 pub mod Ready
-pub mod ReadPlain
 pub mod Cuts
 pub mod Affixes
 pub mod Texts
