@@ -43,33 +43,41 @@ use Rattle.pack_check.specs.Check.{checkedBy, checkRules, checkPack}
 use Rattle.pack_check.specs.declared.PackCheck.{PackCheck}
 use Rattle.pack_check.specs.declared.PackCheck.the-variants.{Passes, Refused}
 use Rattle.select.specs.Select.{selectNumber, selectRules, selectOf}
+use Rattle.demands.specs.Verdicts.{NumberVerdict, PackVerdict, SelectVerdict}
 use Rattle.demands.specs.Packs.{Passed, Shuffle, Larger, MeetsAdded, Grown}
+use Rattle.demands.proofs.Given.{number-given, number-found, pack-given, select-given, select-found}
 use Rattle.demands.proofs.Counts.{met, wordMet, selected, met-perm, word-perm, met-append, word-append, word-added, word-none, word-of, some-met, at-index, index-at}
 
 -- ---- (a) "a pack to which none of 20 to 26 applies passes exactly when no admitted number meets the conditions of two of its rules"
 
-pub passes-exactly : (pack : List ℕ) (rules : List Rule) → readPack pack ≡ Rules rules → Passed pack ↔ AllApart rules
-passes-exactly pack rules e = (λ p. passes-apart rules (unchecked (checkOf rules) (rw e at p)), λ h. rw (e, apart-passes rules h))
+passing : (pack : List ℕ) (rules : List Rule) → readPack pack ≡ Rules rules → Passed pack ↔ AllApart rules
+passing pack rules e = (λ p. passes-apart rules (unchecked (checkOf rules) (rw e at p)), λ h. rw (e, apart-passes rules h))
   where
     unchecked : (c : Checked) → checkedBy c ≡ Passes → c ≡ RulesPass
     unchecked RulesPass q = refl
     unchecked (Clashes pair x) q = never (cc)
 
+pub passes-exactly : (pack : List ℕ) (rules : List Rule) → PackVerdict pack (Rules rules) → Passed pack ↔ AllApart rules
+passes-exactly pack rules v = passing pack rules (pack-given pack v)
+
 -- ---- (b) "the pair named is met by a single admitted number, every other such pair comes later, the number named meets both, and every other number that
 -- does comes later"
 
-pub names-the-first : (pack : List ℕ) (rules : List Rule) (pair : Pair) (x : Witness) → readPack pack ≡ Rules rules → checkPack pack ≡ Refused (RulesClash pair x)
+pub names-the-first : (pack : List ℕ) (rules : List Rule) (pair : Pair) (x : Witness) → PackVerdict pack (Rules rules) → checkPack pack ≡ Refused (RulesClash pair x)
     → (i : ℕ) × (j : ℕ) × (pair .first ≡ 1 + i) × (pair .second ≡ 1 + j) × Lowest rules i j x
-names-the-first pack rules pair x e c = subst (Claims 1 rules) (clashed (checkOf rules) (rw e at c)) (check-claims rules)
+names-the-first pack rules pair x v c = subst (Claims 1 rules) (clashed (checkOf rules) (rw (pack-given pack v) at c)) (check-claims rules)
   where
     clashed : (r : Checked) → checkedBy r ≡ Refused (RulesClash pair x) → r ≡ Clashes pair x
     clashed RulesPass q = never (cc)
     clashed (Clashes p y) q = cc
 
 -- a pack that is read and does not pass gets 27: no other refusal is left
-pub else-27 : (pack : List ℕ) (rules : List Rule) → readPack pack ≡ Rules rules → (Passed pack → ⊥) → (pair : Pair) × ((x : Witness) × (checkPack pack ≡ Refused (RulesClash pair x)))
-else-27 pack rules e n = by (checkOf rules) refl
+pub else-27 : (pack : List ℕ) (rules : List Rule) → PackVerdict pack (Rules rules) → (Passed pack → ⊥) → (pair : Pair) × ((x : Witness) × (checkPack pack ≡ Refused (RulesClash pair x)))
+else-27 pack rules v n = by (checkOf rules) refl
   where
+    e : readPack pack ≡ Rules rules
+    e = pack-given pack v
+
     by : (c : Checked) → checkOf rules ≡ c → (pair : Pair) × ((x : Witness) × (checkPack pack ≡ Refused (RulesClash pair x)))
     by RulesPass q = absurd (n (rw (e, q)))
     by (Clashes pair x) q = (pair, (x, rw (e, q)))
@@ -107,7 +115,7 @@ passed-rules : (pack : List ℕ) → Passed pack → (rules : List Rule) × ((re
 passed-rules pack p = by (readPack pack) refl
   where
     by : (a : PackAnswer) → readPack pack ≡ a → (rules : List Rule) × ((readPack pack ≡ Rules rules) × AllApart rules)
-    by (Rules rules) e = (rules, (e, passes-exactly pack rules e .0 p))
+    by (Rules rules) e = (rules, (e, passing pack rules e .0 p))
     by (PackRefused f) e =
         let q : Refused f ≡ Passes = rw e at p in
         never (cc)
@@ -119,15 +127,20 @@ same-words rs qs d h k s (Is n) e =
     selected n qs (read-few qs k s n e) ∙ ap Word (sym (word-perm n d (read-few rs h s n e))) ∙ sym (selected n rs (read-few rs h s n e))
 same-words rs qs d h k s (NumberRefused f) e = refl
 
-pub shuffled : (pack other : List ℕ) → Shuffle pack other → Passed pack → Passed other × ((number : List ℕ) → selectOf other number ≡ selectOf pack number)
-shuffled pack other d p =
+same-shuffled : (pack other : List ℕ) → Shuffle pack other → Passed pack → Passed other × ((number : List ℕ) → selectOf other number ≡ selectOf pack number)
+same-shuffled pack other d p =
     let a = passed-rules pack p in
     let rs = a .0 in
     let t = read-shuffle pack other rs d (a .1 .0) in
     let qs = map segmentRule (segments other) in
     let dr : List·Permᴰ rs qs = subst (λ (l : List Rule). List·Permᴰ l qs) (sym (t .0)) (perm-rules d) in
     let k : AllApart qs = apart-of-few qs (λ w h. rw (← (met-perm (numberAt w) dr)) (few rs (a .1 .1) w h)) in
-    (passes-exactly other qs (t .1) .1 k, λ number. rw (t .1, a .1 .0) (same-words rs qs dr (a .1 .1) k number (readNumber number) refl))
+    (passing other qs (t .1) .1 k, λ number. rw (t .1, a .1 .0) (same-words rs qs dr (a .1 .1) k number (readNumber number) refl))
+
+-- what is due under the pack, by the table and demand 2, is what is answered under the shuffle
+pub shuffled : (pack other : List ℕ) → Shuffle pack other → Passed pack
+    → Passed other × ((number : List ℕ) (c : Selection) → SelectVerdict pack number c → selectOf other number ≡ c)
+shuffled pack other d p = let s = same-shuffled pack other d p in (s .0, λ number c v. s .1 number ∙ select-given pack number v)
 
 -- ---- (d) "if a larger pack passes too, every admitted number keeps its word, except that one which had "other" and meets an added rule has that rule's word"
 
@@ -150,9 +163,11 @@ grown smaller added larger number rules d r p q =
     by rs qs e f h k dr (NumberRefused g) n =
         record {
           named = λ j w m.
-              let z : NumberRefused g ≡ Is (m .operands) = sym n ∙ m .number-read in
+              let z : NumberRefused g ≡ Is (m .operands) = sym n ∙ number-given number (m .number-read) in
               never (cc);
-          kept = λ m. rw (e, f, n);
+          kept = λ m c v.
+              let same : selectOf larger number ≡ selectOf smaller number = rw (e, f, n) in
+              same ∙ select-given smaller number v;
         }
     by rs qs e f h k dr (Is x) n =
         let mr = read-few rs h number x n in
@@ -163,12 +178,12 @@ grown smaller added larger number rules d r p q =
         let word-r : selectOf smaller number ≡ Word (wordMet rs x) = rw (e, n) (selected x rs mr) in
         record {
           named = λ j w m.
-              let same : m .operands ≡ x = read-as (sym (m .number-read) ∙ n) in
+              let same : m .operands ≡ x = read-as (sym (number-given number (m .number-read)) ∙ n) in
               let at = subst (λ (y : Number). MeetsAt y (map segmentRule added) j w) same (m .meets-it) in
               let none : met rs x ≡ 0 = omega (arith, sum, both-few, counted x at) in
               word-q ∙ ap Word (word-added x rs (map segmentRule added) none ∙ word-of x at (omega (arith, sum, both-few)));
-          kept = λ m.
-              tested (eqb (met rs x) 0)
+          kept = λ m c v.
+              (tested (eqb (met rs x) 0)
               (λ z.
               let none = eqb-true (met rs x) 0 z in
               let other : wordMet rs x ≡ Other = word-none x rs none in
@@ -176,8 +191,9 @@ grown smaller added larger number rules d r p q =
               (λ y. word-q ∙ ap Word (word-added x rs (map segmentRule added) none ∙ word-none x (map segmentRule added) (eqb-true (met (map segmentRule added) x) 0 y) ∙ sym other) ∙ sym word-r)
               (λ y.
               let s = some-met x (map segmentRule added) (pos (eqb-false (met (map segmentRule added) x) 0 y)) in
-              absurd (m (s .0) (wordMet (map segmentRule added) x) (record { had-other = word-r ∙ ap Word other; operands = x; number-read = n; meets-it = s .1 }))))
-              (λ z. word-q ∙ ap Word (word-append x rs (map segmentRule added) (pos (eqb-false (met rs x) 0 z))) ∙ sym word-r);
+              absurd (m (s .0) (wordMet (map segmentRule added) x) (record { had-other = subst (SelectVerdict smaller number) (word-r ∙ ap Word other) (select-found smaller number); operands = x; number-read = subst (NumberVerdict number) n (number-found number); meets-it = s .1 }))))
+              (λ z. word-q ∙ ap Word (word-append x rs (map segmentRule added) (pos (eqb-false (met rs x) 0 z))) ∙ sym word-r))
+              ∙ select-given smaller number v;
         }
       where
         pos : {m : ℕ} → (m ≡ 0 → ⊥) → 0 < m

@@ -4,16 +4,17 @@ use mathlib.Core.List.{List, _++_, List·Permᴰ}
 use Prim.Native.Nat.{ℕ}
 use Rattle.answer.specs.declared.Keyword.{Keyword}
 use Rattle.answer.specs.declared.Keyword.the-variants.{Other}
-use Rattle.number.specs.Reading.{readNumber}
 use Rattle.number.specs.declared.Number.{Number}
-use Rattle.number.specs.declared.Reading.the-variants.{Is}
+use Rattle.number.specs.declared.Reading.the-variants.{Is as NumberIs}
 use Rattle.rules.specs.Syntax.{Rule}
 use Rattle.grammar.specs.Reader.{segments}
 use Rattle.plural.specs.Words.{MeetsAt}
+use Rattle.plural.specs.declared.Selection.{Selection}
 use Rattle.plural.specs.declared.Selection.the-variants.{Word}
 use Rattle.select.specs.Select.{selectOf}
 use Rattle.pack_check.specs.Check.{checkPack}
 use Rattle.pack_check.specs.declared.PackCheck.the-variants.{Passes}
+use Rattle.demands.specs.Verdicts.{NumberVerdict, SelectVerdict}
 
 -- "A passed pack is one the check doesn't refuse."
 abbrev pub Passed : List ℕ → Type 0
@@ -28,15 +29,16 @@ Shuffle pack other = List·Permᴰ (segments pack) (segments other)
 abbrev pub Larger : List ℕ → List (List ℕ) → List ℕ → Type 0
 Larger smaller added larger = List·Permᴰ (segments smaller ++ added) (segments larger)
 
--- The number's text had `other` under the smaller pack and meets the added rule k, whose keyword is w.
+-- The number's text is due `other` under the smaller pack and meets the added rule k, whose keyword is w.
 pub record MeetsAdded (smaller number : List ℕ) (added : List Rule) (k : ℕ) (w : Keyword) : Type 0 where
-  pub had-other : selectOf smaller number ≡ Word Other
+  pub had-other : SelectVerdict smaller number (Word Other)
   pub operands : Number
-  pub number-read : readNumber number ≡ Is operands
+  pub number-read : NumberVerdict number (NumberIs operands)
   pub meets-it : MeetsAt operands added k w
 
--- "if a larger pack passes too, every admitted number keeps its word, except that one which had "other" and meets an added rule has that rule's word"
+-- "if a larger pack passes too, every admitted number keeps its word, except that one which had "other" and meets an added rule has that rule's word": what
+-- is answered under the larger pack, by what is due under the smaller
 pub record Grown (smaller larger number : List ℕ) (added : List Rule) : Type 0 where
   pub named : (k : ℕ) (w : Keyword) → MeetsAdded smaller number added k w → selectOf larger number ≡ Word w
   -- refused numbers among them
-  pub kept : ((k : ℕ) (w : Keyword) → MeetsAdded smaller number added k w → ⊥) → selectOf larger number ≡ selectOf smaller number
+  pub kept : ((k : ℕ) (w : Keyword) → MeetsAdded smaller number added k w → ⊥) → (c : Selection) → SelectVerdict smaller number c → selectOf larger number ≡ c
