@@ -17,7 +17,7 @@ use Rattle.token.specs.Token.{whites, whiteLen, isWhite, isLetter, letters, dot
 use Rattle.token.proofs.Spellings.{both-0, both-1, both-in}
 use Rattle.token.proofs.Pieces.{piece, pieced, tokens-turn}
 use Rattle.grammar.specs.Grammar.{Text, all, colon, equal, other}
-use Rattle.grammar.specs.WellFormed.{texts, WellFormed, Culprit, Unfinished}
+use Rattle.grammar.specs.WellFormed.{texts, WellFormed, Culprit, Unfinished, PackWith}
 use Rattle.grammar.specs.Segment.{words}
 use Rattle.grammar.specs.Steps.{State}
 use Rattle.grammar.specs.Steps.State.{WantsName, WantsColon, WantsNothing, WantsOperand, HasOperand, WantsModulus, HasModulus, WantsValue, HasValue, WantsUpper, HasUpper, Dead}
@@ -327,13 +327,6 @@ ending-is (HasValue f h vs a) = refl
 ending-is (WantsUpper f h vs a) = refl
 ending-is (HasUpper f h vs a b) = refl
 ending-is Dead = refl
-
--- a text is a well-formed pack, and begins with these tokens
-pub record PackWith (us : List Text) : Type 0 where
-  pub text : Text
-  pub rest : List Text
-  pub formed : WellFormed (texts (tokens 0 text))
-  pub begins : texts (tokens 0 text) ≡ us ++ rest
 
 -- the bytes x, and then what ends the rule being read
 ends-well : (x : Text) → isDead (far outset (texts (tokens 0 x)) .state) ≡ false → PackWith (texts (tokens 0 x))

@@ -4,7 +4,7 @@ use mathlib.Core.Path.{_≡_}
 use mathlib.Core.Bool.{true}
 use mathlib.Core.List.{List, [], _∷_, _++_}
 use Prim.Native.Nat.{ℕ}
-use Rattle.token.specs.Token.{Token}
+use Rattle.token.specs.Token.{Token, tokens}
 use Rattle.grammar.specs.Grammar.{Text, PackTree, ofPack, rightPack}
 
 -- the bytes of each token
@@ -35,3 +35,10 @@ pub record Unfinished (ts : List Token) (end a : ℕ) : Type 0 where
   pub place : a ≡ end
   pub some : Begins (texts ts)
   pub none : WellFormed (texts ts) → ⊥
+
+-- a text whose tokens are a well-formed pack that begins with these
+pub record PackWith (us : List Text) : Type 0 where
+  pub text : Text
+  pub rest : List Text
+  pub formed : WellFormed (texts (tokens 0 text))
+  pub begins : texts (tokens 0 text) ≡ us ++ rest
