@@ -268,8 +268,8 @@ symbolsCode (SymbolsRefused r) = numberOf r
 symbols-row : {s : List ℕ} {j : Judged} → SymbolsVerdict s j → ZeroOr (Within 40 41 (symbolsCode j)) (symbolsCode j)
 symbols-row (no-record f) = inr (omega arith, omega arith)
 symbols-row (symbol-twice es w t) = inr (omega arith, omega arith)
-symbols-row (bad-body es w t b) = inr (omega arith, omega arith)
-symbols-row (good es w t b) = inl refl
+symbols-row (bad-body es w t e a n) = inr (omega arith, omega arith)
+symbols-row (good es w t f) = inl refl
 
 of-symbols : {s : List ℕ} {r : Refusal} → SymbolsVerdict s (SymbolsRefused r) → Within 40 41 (numberOf r)
 of-symbols {s} {r} v = not-zero r (symbols-row v)

@@ -1,6 +1,6 @@
 -- The verdicts of specs/Verdicts.antt are those of the definitions that the entries' contracts cite: `..-given`, no other verdict can be had, and
 -- `..-found`, one always is.
-use mathlib.Core.Path.{_≡_, refl, sym, ap, _∙_, subst}
+use mathlib.Core.Path.{_≡_, refl, sym, ap, _∙_, subst, fun-ext}
 use mathlib.Core.Bool.{Bool, true, false}
 use mathlib.Core.List.{List, []}
 use mathlib.Core.Logic.{_⊎_, inl, inr}
@@ -44,16 +44,18 @@ use Rattle.clash_laws.proofs.Claimed.{check-claims, apart-passes}
 use Rattle.pack_check.specs.Check.{checkedBy, checkRules, checkPack}
 use Rattle.pack_check.specs.declared.PackCheck.{PackCheck}
 use Rattle.pack_check.specs.declared.PackCheck.the-variants.{Passes, Refused as CheckRefused}
+use Rattle.symbols.specs.declared.Symbol.{Symbol}
 use Rattle.symbols.specs.declared.Judged.the-variants.{Good, Refused as SymbolsRefused}
 use Rattle.symbols.specs.Entries.{symbolIn, standardRecord, readSymbols}
 use Rattle.symbols_grammar.specs.Record.{Verdict as SymbolsVerdict}
-use Rattle.symbols_grammar.proofs.Records.{verdict-given as symbols-given, verdict-found as symbols-found}
+use Rattle.symbols_grammar.proofs.Records.{verdict-given as symbols-given, verdict-found as symbols-found, symbol-is}
 use Rattle.pattern.specs.declared.Pattern.{Pattern}
 use Rattle.pattern.specs.declared.PatternReading.the-variants.{Is as PatternIs, Refused as PatternRefused}
 use Rattle.pattern.specs.Reading.{readPattern}
 use Rattle.pattern_grammar.specs.Verdict.{Verdict as PatternVerdict}
 use Rattle.pattern_grammar.proofs.Verdicts.{verdict-given as pattern-given, verdict-found as pattern-found}
 use Rattle.layout.specs.Text.{textOf}
+use Rattle.print.specs.Text.{PrintedText}
 use Rattle.print.specs.declared.Printed.{Printed}
 use Rattle.print.specs.declared.Printed.the-variants.{Text, Refused as PrintRefused}
 use Rattle.print.specs.Outcome.{Outcome, outcome, answerOf, areaOf}
@@ -257,8 +259,9 @@ module _ (house s t area : List ℕ) where
   printable : (p : Pattern) (n : Operands) (text : List ℕ) → Printable house s t p n text → outcome house s t ≡ ToText text
   printable p n text w =
       let x : Read house s t p n = record { symbols = symbols-given house (w .symbols); pattern = pattern-given s (w .pattern); number = number-given t (w .number) } in
+      let e : w .symbol ≡ symbolIn house standardRecord = fun-ext (λ y. sym (symbol-is house (x .symbols) y (w .symbol y) .0 (w .symbols-are y))) in
       sym (verdict-only house s t (outcome-prints p n x (w .no-exponent)))
-      ∙ ap ToText (sym (printed-text s t p n (x .pattern) (x .number) (symbolIn house standardRecord) text .0 (w .is-text)))
+      ∙ ap ToText (sym (printed-text s t p n (x .pattern) (x .number) (symbolIn house standardRecord) text .0 (subst (λ (f : Symbol → List ℕ). PrintedText f s p n text) e (w .is-text))))
 
   pub print-given : {r : Printed} {after : List ℕ} → PrintVerdict house s t area r after
       → (answerOf (outcome house s t) area ≡ r) × (areaOf (outcome house s t) area ≡ after)
@@ -305,6 +308,8 @@ module _ (house s t area : List ℕ) where
         pattern = subst (PatternVerdict s) (x .pattern) (pattern-found s);
         number = subst (NumberVerdict t) (x .number) (number-found t);
         no-exponent = h;
+        symbol = symbolIn house standardRecord;
+        symbols-are = λ y. symbol-is house (x .symbols) y (symbolIn house standardRecord y) .1 refl;
         is-text = printed-text s t p n (x .pattern) (x .number) (symbolIn house standardRecord) (textOf (symbolIn house standardRecord) s p n) .1 refl;
       })
 

@@ -30,9 +30,9 @@ use Rattle.plural.specs.declared.Selection.the-variants.{Refused as SelectionRe
 use Rattle.clash_laws.specs.Claims.{AllApart, Lowest}
 use Rattle.pack_check.specs.declared.PackCheck.{PackCheck}
 use Rattle.pack_check.specs.declared.PackCheck.the-variants.{Passes, Refused as CheckRefused}
-use Rattle.symbols.specs.Entries.{symbolIn, standardRecord}
+use Rattle.symbols.specs.declared.Symbol.{Symbol}
 use Rattle.symbols.specs.declared.Judged.the-variants.{Good, Refused as SymbolsRefused}
-use Rattle.symbols_grammar.specs.Record.{Verdict as SymbolsVerdict}
+use Rattle.symbols_grammar.specs.Record.{Verdict as SymbolsVerdict, SymbolIs}
 use Rattle.pattern.specs.declared.Pattern.{Pattern}
 use Rattle.pattern.specs.declared.PatternReading.the-variants.{Is as PatternIs, Refused as PatternRefused}
 use Rattle.pattern_grammar.specs.Verdict.{Verdict as PatternVerdict}
@@ -84,7 +84,10 @@ pub record Printable (house s t : List ℕ) (p : Pattern) (n : Number) (text : L
   pub pattern : PatternVerdict s (PatternIs p)
   pub number : NumberVerdict t (NumberIs n)
   pub no-exponent : n .e ≡ 0
-  pub is-text : PrintedText (symbolIn house standardRecord) s p n text
+  -- "Each symbol is taken from the standard record when the house record lacks it."
+  pub symbol : Symbol → List ℕ
+  pub symbols-are : (y : Symbol) → SymbolIs house y (symbol y)
+  pub is-text : PrintedText symbol s p n text
 
 pub data PrintVerdict (house s t area : List ℕ) : Printed → List ℕ → Type 0 where
   by-symbols : (r : Refusal) → SymbolsVerdict house (SymbolsRefused r) → PrintVerdict house s t area (PrintRefused r) area

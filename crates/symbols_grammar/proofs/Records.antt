@@ -1,15 +1,16 @@
--- The record that is read is the record that the bytes spell; rows 40 and 41; what the finder gives.
+-- The record that is read is the record that the bytes spell; rows 40 and 41; the body that the finder gives is the symbol's.
 use mathlib.Core.Path.{_≡_, refl, sym, ap, subst, _∙_}
-use mathlib.Core.Bool.{true, false, not}
+use mathlib.Core.Bool.{true, false}
 use mathlib.Core.List.{List, [], _∷_, _++_}
-use Prim.Native.Nat.{ℕ, zero, suc, _+_, _*_, _-_, _/_, _%_, _≤_, _<_}
+use mathlib.Core.Logic.{_↔_}
+use Prim.Native.Nat.{ℕ, zero, suc, _+_, _*_, _/_, _%_, _≤_, _<_}
 use native.Mathlib.Omega.{arith}
-use borrow.Author.Tests.{eq-eqb, ne-eqb, eqb-true, eqb-false, lt-ltb, ltb-true}
+use borrow.Author.Tests.{ne-eqb, eqb-true, eqb-false, lt-ltb, ltb-true}
 use lib.Dec.{eqb, ltb}
 use lib.ListN.{length, take, drop, take-append-drop, length-append, length-drop}
 use lib.Seq.{take-at, drop-at, length-take-le}
-use Rattle.decimal.proofs.Choices.{tested, not-both}
-use Rattle.answer.specs.declared.SymbolRow.the-variants.{NotASymbolRecord, BadSymbolBody}
+use Rattle.decimal.proofs.Choices.{tested, never, not-both}
+use Rattle.answer.specs.declared.SymbolRow.the-variants.{NotASymbolRecord}
 use Rattle.symbols.specs.declared.Symbol.{Symbol}
 use Rattle.symbols.specs.declared.Symbol.the-variants.{Decimal, Group, Minus, Plus, Percent, Permille}
 use Rattle.symbols.specs.declared.Kind.{Kind}
@@ -21,17 +22,12 @@ use Rattle.symbols.specs.Kinds.{upperOf, kindWith, isLength, kindOf}
 use Rattle.symbols.specs.Entries.{headIn, headOf, Entry, entries, broken, same, holds, bodyIn, twice, bodyFits, bodiesFit, refuse, readSymbols, symbolIn, standardRecord}
 use Rattle.symbols.proofs.KindLaws.{kind-at, length-bounds}
 use Rattle.symbols.proofs.EntryLaws.{entries-skip, broken-skip}
-use Rattle.symbols_grammar.specs.Record.{kindByte, Sized, AllSized, none, more, textOf, Spells, Among, here, later, Verdict, no-record, symbol-twice, bad-body, good}
+use Rattle.symbols_grammar.specs.Record.{kindByte, Sized, AllSized, none, more, textOf, Spells, Among, Twice, IsBody, Verdict, no-record, symbol-twice, bad-body, good, SymbolIs, own, standard}
+use Rattle.symbols_grammar.specs.Record.Among.{here, later}
+use Rattle.symbols_grammar.specs.Record.Twice.{here as twice-here, later as twice-later}
+use Rattle.symbols_grammar.proofs.Told.{kind-with, same-told, holds-told, twice-told, body-told, bodies-told, unfit-entry}
 
 -- ---- kind bytes
-
-kind-with : (y : Symbol) (n : ℕ) → kindWith (upperOf y) n ≡ Known y n
-kind-with Decimal n = refl
-kind-with Group n = refl
-kind-with Minus n = refl
-kind-with Plus n = refl
-kind-with Percent n = refl
-kind-with Permille n = refl
 
 kind-spelled : (y : Symbol) (n : ℕ) → 1 ≤ n → n ≤ 4 → kindOf (16 * upperOf y + n) ≡ Known y n
 kind-spelled y n h k =
@@ -169,19 +165,23 @@ read-spells s e = read-within (length s) s (omega arith) e
 
 -- ---- rows 40 and 41: "given exactly when"
 
+once : (es : List Entry) → (Twice es → ⊥) → twice es ≡ false
+once es f = tested (twice es) (λ k. absurd (f (twice-told es .0 k))) (λ k. k)
+
 pub verdict-given : (s : List ℕ) {r : Judged} → Verdict s r → readSymbols s ≡ r
 verdict-given s (no-record f) =
     let k : broken s ≡ true = tested (broken s) (λ k. k) (λ k. absurd (f (entries s) (read-spells s k))) in
     rw k
 verdict-given s (symbol-twice es w t) =
     let r = spells-read s es w in
-    rw (r .1, r .0, t)
-verdict-given s (bad-body es w t b) =
+    rw (r .1, r .0, twice-told es .1 t)
+verdict-given s (bad-body es w t e a n) =
     let r = spells-read s es w in
-    rw (r .1, r .0, t, b)
-verdict-given s (good es w t b) =
+    let b : bodiesFit es ≡ false = tested (bodiesFit es) (λ k. absurd (n (bodies-told es .0 k e a))) (λ k. k) in
+    rw (r .1, r .0, once es t, b)
+verdict-given s (good es w t f) =
     let r = spells-read s es w in
-    rw (r .1, r .0, t, b)
+    rw (r .1, r .0, once es t, bodies-told es .1 f)
 
 pub verdict-found : (s : List ℕ) → Verdict s (readSymbols s)
 verdict-found s = tested (broken s) (λ k. made (no-record (λ es w. not-both k (spells-read s es w .1)))) whole
@@ -191,86 +191,96 @@ verdict-found s = tested (broken s) (λ k. made (no-record (λ es w. not-both k 
 
     whole : broken s ≡ false → Verdict s (readSymbols s)
     whole k =
+        let es = entries s in
         let w = read-spells s k in
-        tested (twice (entries s)) (λ t. made (symbol-twice (entries s) w t))
-        (λ t. tested (bodiesFit (entries s)) (λ b. made (good (entries s) w t b)) (λ b. made (bad-body (entries s) w t b)))
+        tested (twice es) (λ t. made (symbol-twice es w (twice-told es .0 t)))
+        (λ t.
+        let apart : Twice es → ⊥ = λ z. not-both (twice-told es .1 z) t in
+        tested (bodiesFit es) (λ b. made (good es w apart (bodies-told es .0 b)))
+        (λ b.
+        let u = unfit-entry es b in
+        made (bad-body es w apart (u .entry) (u .among) (u .no-body))))
 
 -- ---- the finder
 
-holds-same : (x y : Symbol) (es : List Entry) → upperOf x ≡ upperOf y → holds x es ≡ holds y es
-holds-same x y [] e = refl
-holds-same x y (d ∷ es) e = rw (e, holds-same x y es e)
+-- the entries of a good record
+record Passed (es : List Entry) : Type 0 where
+  apart : Twice es → ⊥
+  bodies : (e : Entry) → Among e es → IsBody (e .body)
 
--- "symbol twice" apart, the finder gives an entry's body for its symbol
-pub found-among : {e : Entry} {es : List Entry} → Among e es → twice es ≡ false → (holds (e .symbol) es ≡ true) × (bodyIn (e .symbol) es ≡ e .body)
-found-among (here {e} {es}) t = (rw (eq-eqb (upperOf (e .symbol)) (upperOf (e .symbol)) refl), rw (eq-eqb (upperOf (e .symbol)) (upperOf (e .symbol)) refl))
-found-among (later {e} {d} {es} a) t =
-    tested (holds (d .symbol) es) (λ k. not-both (rw k) t)
-    (λ k.
-    let r = found-among a (rw k at t) in
-    tested (same (d .symbol) (e .symbol))
-    (λ s. not-both (holds-same (d .symbol) (e .symbol) es (eqb-true (upperOf (d .symbol)) (upperOf (e .symbol)) s) ∙ r .0) k)
-    (λ s. (rw s (r .0), rw s (r .1))))
+passed : (s : List ℕ) (es : List Entry) → readSymbols s ≡ Good → Spells s es → Passed es
+passed s es g w = by (verdict-found s) g
+  where
+    by : {r : Judged} → Verdict s r → r ≡ Good → Passed es
+    by (no-record f) e = absurd (f es w)
+    by (symbol-twice ds v t) e = never (cc)
+    by (bad-body ds v t d a n) e = never (cc)
+    by (good ds v t f) e = subst Passed (sym (spells-read s ds v .0) ∙ spells-read s es w .0) (record { apart = t; bodies = f })
 
--- a body of entries that fit is one code point, not an ASCII digit
-body-of-fit : (y : Symbol) (es : List Entry) → bodiesFit es ≡ true → holds y es ≡ true → bodyFits (bodyIn y es) ≡ true
-body-of-fit y [] f h = not-both h refl
-body-of-fit y (e ∷ es) f h =
-    tested (bodyFits (e .body))
-    (λ b.
-    tested (same (e .symbol) y) (λ s. rw s b) (λ s. rw s (body-of-fit y es (rw b at f) (rw s at h))))
-    (λ b. not-both f (rw b))
+-- an entry's body is found by its symbol, unless that stands twice
+found-among : {e : Entry} {es : List Entry} → Among e es → (Twice es → ⊥) → bodyIn (e .symbol) es ≡ e .body
+found-among (here {e} {es}) f = rw (same-told (e .symbol) (e .symbol) .1 refl)
+found-among (later {e} {d} {es} a) f =
+    tested (same (d .symbol) (e .symbol)) (λ k. absurd (f (twice-here a (sym (same-told (d .symbol) (e .symbol) .0 k)))))
+    (λ k. rw k (found-among a (λ t. f (twice-later t))))
 
-standard-fits : (y : Symbol) → bodyFits (bodyIn y (entries standardRecord)) ≡ true
-unfolding kindOf
-standard-fits Decimal = refl
-standard-fits Group = refl
-standard-fits Minus = refl
-standard-fits Plus = refl
-standard-fits Percent = refl
-standard-fits Permille = refl
+found-good : (s : List ℕ) (es : List Entry) (e : Entry) (y : Symbol) → readSymbols s ≡ Good → Spells s es → Among e es → e .symbol ≡ y → bodyIn y es ≡ e .body
+found-good s es e y g w a q = ap (λ (z : Symbol). bodyIn z es) (sym q) ∙ found-among a (passed s es g w .apart)
 
 pub standard-good : readSymbols standardRecord ≡ Good
 unfolding kindOf
 standard-good = refl
 
--- of a good house record and the standard record the finder gives one code point of UTF-8 that is no ASCII digit, for every symbol
+standard-spells : Spells standardRecord (entries standardRecord)
+unfolding kindOf
+standard-spells = read-spells standardRecord refl
+
+-- the standard record has every symbol
+standard-holds : (y : Symbol) → holds y (entries standardRecord) ≡ true
+unfolding kindOf
+standard-holds Decimal = refl
+standard-holds Group = refl
+standard-holds Minus = refl
+standard-holds Plus = refl
+standard-holds Percent = refl
+standard-holds Permille = refl
+
+module _ (house : List ℕ) (g : readSymbols house ≡ Good) (y : Symbol) where
+  symbol-given : {b : List ℕ} → SymbolIs house y b → symbolIn house standardRecord y ≡ b
+  symbol-given (own es w e a q) = rw (spells-read house es w .0, holds-told y es .1 (record { entry = e; among = a; its = q })) (found-good house es e y g w a q)
+  symbol-given (standard es ds w f v d a q) =
+      let h : holds y es ≡ false = tested (holds y es) (λ k. let r = holds-told y es .0 k in absurd (f (r .entry) (r .among) (r .its))) (λ k. k) in
+      rw (spells-read house es w .0, h, spells-read standardRecord ds v .0) (found-good standardRecord ds d y standard-good v a q)
+
+  symbol-found : SymbolIs house y (symbolIn house standardRecord y)
+  symbol-found =
+      let es = entries house in
+      let ds = entries standardRecord in
+      tested (holds y es)
+      (λ k.
+      let r = holds-told y es .0 k in
+      made (own es w (r .entry) (r .among) (r .its)))
+      (λ k.
+      let r = holds-told y ds .0 (standard-holds y) in
+      made (standard es ds w (λ e a q. not-both (holds-told y es .1 (record { entry = e; among = a; its = q })) k) standard-spells (r .entry) (r .among) (r .its)))
+    where
+      made : {b : List ℕ} → SymbolIs house y b → SymbolIs house y (symbolIn house standardRecord y)
+      made {b} x = subst (SymbolIs house y) (sym (symbol-given x)) x
+
+      w : Spells house (entries house)
+      w = read-spells house (tested (broken house) (λ k. never (differ (sym g ∙ rw k))) (λ k. k))
+        where
+          differ : Good ≡ refuse NotASymbolRecord → _≡_ {A = ℕ} 0 1
+          differ e = cc
+
+-- of a good house record the finder gives each symbol's body, and no other
+pub symbol-is : (house : List ℕ) → readSymbols house ≡ Good → (y : Symbol) (b : List ℕ) → SymbolIs house y b ↔ (symbolIn house standardRecord y ≡ b)
+symbol-is house g y b = (symbol-given house g y, λ e. subst (SymbolIs house y) e (symbol-found house g y))
+
+-- which is one code point of UTF-8 that is no ASCII digit
 pub found-fits : (house : List ℕ) (y : Symbol) → readSymbols house ≡ Good → bodyFits (symbolIn house standardRecord y) ≡ true
-found-fits house y g =
-    tested (holds y (entries house)) (λ h. rw h (body-of-fit y (entries house) fit h)) (λ h. rw h (standard-fits y))
+found-fits house y g = body-told (symbolIn house standardRecord y) .1 (by (symbol-found house g y))
   where
-    refused : {A : Type 0} → readSymbols house ≡ Good → readSymbols house ≡ refuse NotASymbolRecord → A
-    refused g k = absurd (no g k)
-      where
-        no : readSymbols house ≡ Good → readSymbols house ≡ refuse NotASymbolRecord → ⊥
-        no g k =
-            let z : _≡_ {A = ℕ} 0 1 = differ (sym g ∙ k) in
-            omega arith
-          where
-            differ : Good ≡ refuse NotASymbolRecord → _≡_ {A = ℕ} 0 1
-            differ e = cc
-
-    unfit : {A : Type 0} → readSymbols house ≡ Good → readSymbols house ≡ refuse BadSymbolBody → A
-    unfit g k = absurd (no g k)
-      where
-        no : readSymbols house ≡ Good → readSymbols house ≡ refuse BadSymbolBody → ⊥
-        no g k =
-            let z : _≡_ {A = ℕ} 0 1 = differ (sym g ∙ k) in
-            omega arith
-          where
-            differ : Good ≡ refuse BadSymbolBody → _≡_ {A = ℕ} 0 1
-            differ e = cc
-
-    fit : bodiesFit (entries house) ≡ true
-    fit =
-        tested (broken house) (λ b. refused g (rw b))
-        (λ b.
-        tested (twice (entries house)) (λ t. refused g (rw (b, t)))
-        (λ t. tested (bodiesFit (entries house)) (λ f. f) (λ f. unfit g (rw (b, t, f)))))
-
--- "Each symbol is taken from the standard record when the house record lacks it."
-pub found-house : (house standard : List ℕ) (y : Symbol) → holds y (entries house) ≡ true → symbolIn house standard y ≡ bodyIn y (entries house)
-found-house house standard y h = rw h
-
-pub found-standard : (house standard : List ℕ) (y : Symbol) → holds y (entries house) ≡ false → symbolIn house standard y ≡ bodyIn y (entries standard)
-found-standard house standard y h = rw h
+    by : {b : List ℕ} → SymbolIs house y b → IsBody b
+    by (own es w e a q) = passed house es g w .bodies e a
+    by (standard es ds w f v d a q) = passed standardRecord ds standard-good v .bodies d a

@@ -308,7 +308,7 @@ char-sound (b ∷ r) f =
 
 -- ---- whole texts
 
-spell-some : (x : ℕ) → length (spell x) ≡ 0 → ⊥
+pub spell-some : (x : ℕ) → length (spell x) ≡ 0 → ⊥
 spell-some x =
     tested (ltb x 0x80) (λ k e. no (rw k at e)) (λ k₁.
     tested (ltb x 0x800) (λ k e. no (rw (k₁, k) at e)) (λ k₂.
