@@ -77,20 +77,22 @@ ends-bare false n s e = refl
 pub begins-at : (x b : ℕ) (s : List ℕ) → begins x (b ∷ s) ≡ eqb b x
 begins-at x b s = rw (ne-eqb (suc (length s)) 0 (λ y. omega arith))
 
-pub begins-cons : (b : ℕ) (s : List ℕ) → begins 39 (b ∷ s) ≡ eqb b 39
-begins-cons b s = begins-at 39 b s
-
 begins-take : (k : ℕ) (r : List ℕ) → begins 39 r ≡ false → begins 39 (take k r) ≡ false
 begins-take zero r e = refl
 begins-take (suc k) [] e = refl
-begins-take (suc k) (b ∷ r) e = begins-cons b (take k r) ∙ (sym (begins-cons b r) ∙ e)
+begins-take (suc k) (b ∷ r) e = begins-at 39 b (take k r) ∙ (sym (begins-at 39 b r) ∙ e)
 
 -- a quote that is no pair has no quote behind it
 pub alone : (b : ℕ) (r : List ℕ) → eqb b 39 ≡ true → starts apostrophe (b ∷ r) ≡ false → begins 39 r ≡ false
 alone b [] k e = refl
 alone b (c ∷ r) k e =
     let f : both (eqb c 39) true ≡ false = rw k at e in
-    tested (eqb c 39) (λ y. not-both (rw y) f) (λ y. begins-cons c r ∙ y)
+    tested (eqb c 39) (λ y. not-both (rw y) f) (λ y. begins-at 39 c r ∙ y)
+
+-- and is no pair where none is behind it
+pub single : (s : List ℕ) → begins 39 s ≡ false → starts (39 ∷ []) s ≡ false
+single [] e = refl
+single (b ∷ s) e = rw (sym (begins-at 39 b s) ∙ e)
 
 -- the text of one token before an affix is an affix
 Spelled : Bool → List ℕ → ℕ → Token → Type 0
@@ -271,7 +273,7 @@ currency-highs b (c ∷ s) e =
 unquoted : (t r : List ℕ) → begins 39 t ≡ false → stops r ≡ true → starts (39 ∷ []) (t ++ r) ≡ false
 unquoted [] [] e s = refl
 unquoted [] (b ∷ r) e s = rw (ne-eqb b 39 (stop-byte b s .1))
-unquoted (b ∷ t) r e s = rw (sym (begins-cons b t) ∙ e)
+unquoted (b ∷ t) r e s = rw (sym (begins-at 39 b t) ∙ e)
 
 abbrev whole : ℕ → Affix
 whole n = record { len = n; closed = true }

@@ -1,4 +1,4 @@
--- A text has a reserved item exactly where a reserved byte stands bare in it; of a plain pattern the reader's tests of rows 31 and 32 say so.
+-- A text has a reserved item exactly where a reserved byte stands bare in it; and what the reader's tests of rows 31 and 32 say of a plain pattern.
 use mathlib.Core.Path.{_≡_, refl, sym, ap, _∙_}
 use mathlib.Core.Bool.{Bool, true, false, not}
 use mathlib.Core.List.{List, [], _∷_}
@@ -20,7 +20,7 @@ use Rattle.lexer.specs.Items.{starts, apostrophe as twice, permille, currency, 
 use Rattle.lexer.specs.Affixes.{reserves, anyReserved}
 use Rattle.pattern_grammar.specs.Reserved.{Bare, here, apostrophe, quote, byte, Reserved, sign, behind-place}
 use Rattle.pattern_grammar.specs.Verdict.{Plain}
-use Rattle.pattern_grammar.proofs.Affixes.{bare-kept, begins-at, begins-cons, alone, stop-byte, plain-token, isInner, highs, stops-low, permille-highs}
+use Rattle.pattern_grammar.proofs.Affixes.{bare-kept, begins-at, alone, single, stop-byte, plain-token, isInner, highs, stops-low, permille-highs}
 
 -- `¤`, `*` or `@`
 abbrev Sign : List ℕ → Type 0
@@ -139,11 +139,6 @@ byte-step n b s e ih =
     tested (reserves (bareOf n b)) (λ k. rw (e, m, c, k))
     (λ k. rw (e, m, c, k, bare-kept n b) (ih (isNumber (bareOf n b)) 0 refl))))
 
--- no quote behind one that stands alone
-single : (s : List ℕ) → begins 39 s ≡ false → starts (39 ∷ []) s ≡ false
-single [] e = refl
-single (b ∷ s) e = rw (sym (begins-cons b s) ∙ e)
-
 -- what is reserved at a bare place, whatever stands before it, is reserved in the text
 reached : {q : Bool} {s r : List ℕ} → Bare q s r → ((k : ℕ) → highs (suc k) r ≡ false) → ((n : Bool) → anyReserved (itemsFrom false n 0 r) ≡ true)
     → (n : Bool) (k : ℕ) → highs k s ≡ true → (q ≡ true → k ≡ 0) → anyReserved (itemsFrom q n k s) ≡ true
@@ -201,17 +196,17 @@ met : {s r : List ℕ} → Bare false s r → Met r → anyReserved (items s) �
 unfolding highs
 met a m = reached a (m .outer) (m .items-there) false 0 refl (λ _. refl)
 
-pub reserved-told : (s : List ℕ) → (anyReserved (items s) ≡ true) ↔ Reserved s
-reserved-told s = (λ h. there (found false false 0 s h), back)
-  where
-    there : From false false s → Reserved s
-    there (a-sign r x y) = sign r x y
-    there (an-e b t x y) = behind-place b t x y
-    there (at-once e k l) = not-both e refl
+reserved-items : {s : List ℕ} → Reserved s → anyReserved (items s) ≡ true
+reserved-items (sign r x y) = met x (⊎-elim (currency-met r) (⊎-elim (star-met r) (at-met r)) y)
+reserved-items (behind-place b t x p) = met x (e-met b t p)
 
-    back : Reserved s → anyReserved (items s) ≡ true
-    back (sign r x y) = met x (⊎-elim (currency-met r) (⊎-elim (star-met r) (at-met r)) y)
-    back (behind-place b t x p) = met x (e-met b t p)
+items-reserved : {s : List ℕ} → From false false s → Reserved s
+items-reserved (a-sign r x y) = sign r x y
+items-reserved (an-e b t x y) = behind-place b t x y
+items-reserved (at-once e k l) = not-both e refl
+
+pub reserved-told : (s : List ℕ) → (anyReserved (items s) ≡ true) ↔ Reserved s
+reserved-told s = (λ h. items-reserved (found false false 0 s h), λ r. reserved-items r)
 
 -- ---- a plain pattern
 
