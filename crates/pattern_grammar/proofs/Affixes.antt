@@ -26,7 +26,7 @@ use Rattle.pattern_grammar.specs.Grammar.{isBare, IsAffix, done, apostro
 -- ---- bare bytes
 
 -- a bare byte opens and closes no quote
-bare-kept : (n : Bool) (b : ℕ) → quotedAfter false (bareOf n b) ≡ false
+pub bare-kept : (n : Bool) (b : ℕ) → quotedAfter false (bareOf n b) ≡ false
 bare-kept n b =
     choice (λ (t : Item). quotedAfter false t ≡ false) (isPlace b) (λ _. refl) (λ _.
     choice (λ (t : Item). quotedAfter false t ≡ false) (eqb b 37) (λ _. refl) (λ _.
@@ -74,20 +74,25 @@ ends-bare : (q n : Bool) (s : List ℕ) → endsAffix (tokenAt q n s .item) ≡ 
 ends-bare true n s e = not-both e (quoted-goes-on n s)
 ends-bare false n s e = refl
 
-pub begins-cons : (b : ℕ) (s : List ℕ) → begins 39 (b ∷ s) ≡ eqb b 39
-begins-cons b s = rw (ne-eqb (suc (length s)) 0 (λ y. omega arith))
+pub begins-at : (x b : ℕ) (s : List ℕ) → begins x (b ∷ s) ≡ eqb b x
+begins-at x b s = rw (ne-eqb (suc (length s)) 0 (λ y. omega arith))
 
 begins-take : (k : ℕ) (r : List ℕ) → begins 39 r ≡ false → begins 39 (take k r) ≡ false
 begins-take zero r e = refl
 begins-take (suc k) [] e = refl
-begins-take (suc k) (b ∷ r) e = begins-cons b (take k r) ∙ (sym (begins-cons b r) ∙ e)
+begins-take (suc k) (b ∷ r) e = begins-at 39 b (take k r) ∙ (sym (begins-at 39 b r) ∙ e)
 
 -- a quote that is no pair has no quote behind it
-alone : (b : ℕ) (r : List ℕ) → eqb b 39 ≡ true → starts apostrophe (b ∷ r) ≡ false → begins 39 r ≡ false
+pub alone : (b : ℕ) (r : List ℕ) → eqb b 39 ≡ true → starts apostrophe (b ∷ r) ≡ false → begins 39 r ≡ false
 alone b [] k e = refl
 alone b (c ∷ r) k e =
     let f : both (eqb c 39) true ≡ false = rw k at e in
-    tested (eqb c 39) (λ y. not-both (rw y) f) (λ y. begins-cons c r ∙ y)
+    tested (eqb c 39) (λ y. not-both (rw y) f) (λ y. begins-at 39 c r ∙ y)
+
+-- and is no pair where none is behind it
+pub single : (s : List ℕ) → begins 39 s ≡ false → starts (39 ∷ []) s ≡ false
+single [] e = refl
+single (b ∷ s) e = rw (sym (begins-at 39 b s) ∙ e)
 
 -- the text of one token before an affix is an affix
 Spelled : Bool → List ℕ → ℕ → Token → Type 0
@@ -195,7 +200,7 @@ abbrev pub stops : List ℕ → Bool
 stops [] = true
 stops (b ∷ r) = either (isPlace b) (eqb b 59)
 
-stop-byte : (b : ℕ) → either (isPlace b) (eqb b 59) ≡ true → (b < 64) × (b ≡ 39 → ⊥)
+pub stop-byte : (b : ℕ) → either (isPlace b) (eqb b 59) ≡ true → (b < 64) × (b ≡ 39 → ⊥)
 stop-byte b e = (low, λ y. not-quote y)
   where
     not-quote : b ≡ 39 → ⊥
@@ -220,7 +225,7 @@ stop-ends : (n : Bool) (b : ℕ) → either (isPlace b) (eqb b 59) ≡ true → 
 stop-ends n b e = tested (isPlace b) (λ p. place-ends n b p) (λ p. semicolon-ends n b (eqb-true b 59 (rw p at e)))
 
 -- a token of one byte outside quotes, where no longer one begins
-plain-token : (n : Bool) (b : ℕ) (r : List ℕ) → b < 64 → (b ≡ 39 → ⊥) → tokenAt false n (b ∷ r) ≡ token (bareOf n b) 1
+pub plain-token : (n : Bool) (b : ℕ) (r : List ℕ) → b < 64 → (b ≡ 39 → ⊥) → tokenAt false n (b ∷ r) ≡ token (bareOf n b) 1
 plain-token n b r h k =
     rw (ne-eqb b 39 k, ne-eqb b 0xE2 (λ y. omega arith), ne-eqb b 0xC2 (λ y. omega arith))
 
@@ -230,18 +235,21 @@ stopped n (b ∷ r) e =
     let s = stop-byte b e in
     affix-none false n (b ∷ r) (omega arith) (rw (plain-token n b r (s .0) (s .1)) (stop-ends n b e))
 
--- the first bytes of a text are from 80 on: those of a longer code point behind its first
-highs : ℕ → List ℕ → Bool
+-- the first bytes of a text are from 80 to BF: those of a longer code point behind its first
+abbrev pub isInner : ℕ → Bool
+isInner b = if ltb b 128 then false else ltb b 192
+
+unfoldable pub highs : ℕ → List ℕ → Bool
 highs zero s = true
 highs (suc k) [] = false
-highs (suc k) (b ∷ s) = if ltb b 128 then false else highs k s
+highs (suc k) (b ∷ s) = if isInner b then highs k s else false
 
-stops-low : (k : ℕ) (r : List ℕ) → stops r ≡ true → highs (suc k) r ≡ false
+pub stops-low : (k : ℕ) (r : List ℕ) → stops r ≡ true → highs (suc k) r ≡ false
 unfolding highs
 stops-low k [] e = refl
 stops-low k (b ∷ r) e = rw (lt-ltb b 128 (omega (arith, stop-byte b e .0)))
 
-permille-highs : (b : ℕ) (s : List ℕ) → starts permille (b ∷ s) ≡ true → highs 2 s ≡ true
+pub permille-highs : (b : ℕ) (s : List ℕ) → starts permille (b ∷ s) ≡ true → highs 2 s ≡ true
 unfolding highs
 permille-highs b [] e = not-both (both-true (eqb b 0xE2) false e .1) refl
 permille-highs b (c ∷ []) e =
@@ -253,7 +261,7 @@ permille-highs b (c ∷ d ∷ s) e =
     let z = both-true (eqb d 0xB0) true (y .1) in
     rw (eqb-true c 0x80 (y .0), eqb-true d 0xB0 (z .0))
 
-currency-highs : (b : ℕ) (s : List ℕ) → starts currency (b ∷ s) ≡ true → highs 1 s ≡ true
+pub currency-highs : (b : ℕ) (s : List ℕ) → starts currency (b ∷ s) ≡ true → highs 1 s ≡ true
 unfolding highs
 currency-highs b [] e = not-both (both-true (eqb b 0xC2) false e .1) refl
 currency-highs b (c ∷ s) e =
@@ -265,7 +273,7 @@ currency-highs b (c ∷ s) e =
 unquoted : (t r : List ℕ) → begins 39 t ≡ false → stops r ≡ true → starts (39 ∷ []) (t ++ r) ≡ false
 unquoted [] [] e s = refl
 unquoted [] (b ∷ r) e s = rw (ne-eqb b 39 (stop-byte b s .1))
-unquoted (b ∷ t) r e s = rw (sym (begins-cons b t) ∙ e)
+unquoted (b ∷ t) r e s = rw (sym (begins-at 39 b t) ∙ e)
 
 abbrev whole : ℕ → Affix
 whole n = record { len = n; closed = true }
@@ -303,8 +311,8 @@ affix-complete (literal {b} {t} f a) r e n (suc k) h z = absurd (no (z refl))
 affix-complete (bare {b} {t} f a) r e n zero h z =
     bare-step n b (t ++ r) (length t) f (λ y k g. affix-complete a r e y k g (λ x. not-both x refl))
 affix-complete (bare {b} {t} f a) r e n (suc k) h z =
-    tested (ltb b 128) (λ l. not-both h (rw l))
-    (λ l. ap longer (affix-complete a r e n k (rw l at h) (λ x. not-both x refl)))
+    tested (isInner b) (λ l. ap longer (affix-complete a r e n k (rw l at h) (λ x. not-both x refl)))
+    (λ l. not-both h (rw l))
 
 pub affix-found : (p r : List ℕ) → IsAffix false p → stops r ≡ true → affix (p ++ r) ≡ record { len = length p; closed = true }
 unfolding highs

@@ -11,7 +11,7 @@ use lib.ListN.{length, getD, take}
 use lib.Seq.{getD-take, length-take-le}
 use Rattle.decimal.specs.Digits.{value}
 use Rattle.decimal.proofs.Choices.{choice, tested}
-use Rattle.lexer.specs.declared.Mark.the-variants.{Percent, Permille}
+use Rattle.lexer.specs.Items.{permille as permilleMark}
 use Rattle.numberpart.specs.Shape.{between, count, digits, last, primaryOf, front, secondaryOf}
 use Rattle.pattern.specs.Limits.{maxWhole, maxFraction, maxStep}
 use Rattle.pattern.specs.declared.Negative.{Negative}
@@ -21,7 +21,7 @@ use Rattle.pattern.specs.declared.PatternReading.the-variants.{Is}
 use Rattle.pattern.specs.Reading.{readPattern}
 use Rattle.pattern_grammar.specs.NumberPart.{dropCommas, IsWhole, IsPart}
 use Rattle.pattern_grammar.specs.Grammar.{IsSub, IsPattern, one, two}
-use Rattle.pattern_grammar.specs.Meaning.{asZero, stepIn, marksIn, factorIn, ManyPlaces, StepOver, asked, ownIn, patternIn}
+use Rattle.pattern_grammar.specs.Meaning.{asZero, stepIn, percentMark, marksIn, factorIn, ManyPlaces, StepOver, asked, ownIn, patternIn}
 use Rattle.pattern_grammar.specs.Bounds.{Bounds}
 use Rattle.pattern_grammar.specs.Verdict.{Past35}
 use Rattle.pattern_grammar.proofs.Numbers.{between-is, places-left}
@@ -196,10 +196,10 @@ read-bounds s p e =
     subst Bounds (a .is) (pattern-bounds w (a .past))
 
 -- "`%` multiplies by 100, `‰` by 1000"
-factor-most : (prefix suffix : List ℕ) → factorIn prefix suffix ≤ 1000
-factor-most prefix suffix =
-    choice (λ (n : ℕ). n ≤ 1000) (eqb (marksIn Percent prefix suffix) 1) (λ k. omega arith)
-    (λ k. choice (λ (n : ℕ). n ≤ 1000) (eqb (marksIn Permille prefix suffix) 1) (λ l. omega arith) (λ l. omega arith))
+factor-most : {s : List ℕ} (w : IsSub s) → factorIn w ≤ 1000
+factor-most w =
+    choice (λ (n : ℕ). n ≤ 1000) (eqb (marksIn percentMark w) 1) (λ k. omega arith)
+    (λ k. choice (λ (n : ℕ). n ≤ 1000) (eqb (marksIn permilleMark w) 1) (λ l. omega arith) (λ l. omega arith))
 
 pub read-factor : (s : List ℕ) (p : Pattern) → readPattern s ≡ Is p → p .factor ≤ 1000
 read-factor s p e =
@@ -207,5 +207,5 @@ read-factor s p e =
     subst (λ (q : Pattern). q .factor ≤ 1000) (read-asks s w p e .is) (asked-factor w)
   where
     asked-factor : {t : List ℕ} (w : IsPattern t) → patternIn w .factor ≤ 1000
-    asked-factor (one w) = factor-most (w .prefix) (w .suffix)
-    asked-factor (two w v) = factor-most (w .prefix) (w .suffix)
+    asked-factor (one w) = factor-most w
+    asked-factor (two w v) = factor-most w

@@ -14,7 +14,7 @@ use Rattle.utf8.proofs.Lower.{both-true}
 use Rattle.lexer.specs.declared.Affix.{Affix}
 use Rattle.lexer.specs.declared.Mark.{Mark}
 use Rattle.lexer.specs.declared.Mark.the-variants.{Percent, Permille}
-use Rattle.lexer.specs.Items.{items}
+use Rattle.lexer.specs.Items.{permille as permilleMark, items}
 use Rattle.lexer.specs.Affixes.{marks}
 use Rattle.numberpart.specs.Shape.{wholeOf, fractionOf, count, digits, primaryOf, secondaryOf, stepOf}
 use Rattle.pattern.specs.Limits.{maxWhole, maxFraction, maxStep}
@@ -23,8 +23,9 @@ use Rattle.pattern.specs.declared.Negative.{Negative}
 use Rattle.pattern.specs.Reading.{numberOf, suffixOf, marksOf, halfOf, manyPlaces, stepOver, manyMarks, sameMarks, factorOf, patternOf, ownAffixes}
 use Rattle.pattern_grammar.specs.NumberPart.{dropCommas}
 use Rattle.pattern_grammar.specs.Grammar.{IsSub}
-use Rattle.pattern_grammar.specs.Meaning.{stepIn, marksIn, factorIn, ManyPlaces, StepOver, ManyMarks, SameMarks, asked, ownIn}
+use Rattle.pattern_grammar.specs.Meaning.{stepIn, percentMark, marksIn, factorIn, ManyPlaces, StepOver, ManyMarks, SameMarks, asked, ownIn}
 use Rattle.pattern_grammar.proofs.Parts.{part-sides}
+use Rattle.pattern_grammar.proofs.Marks.{marks-bare}
 use Rattle.pattern_grammar.proofs.Numbers.{places-left, step-is}
 use Rattle.pattern_grammar.proofs.Subpatterns.{ends, read-sub, parts-before}
 
@@ -41,12 +42,12 @@ pub record Meant {a : List ℕ} (w : IsSub a) (h : Half) : Type 0 where
   pub primary : h .shape .primary ≡ primaryOf (w .number-is .whole)
   pub secondary : h .shape .secondary ≡ secondaryOf (w .number-is .whole)
   pub step : h .shape .step ≡ stepIn (w .number-is)
-  pub percents : h .percents ≡ marksIn Percent (w .prefix) (w .suffix)
-  pub permilles : h .permilles ≡ marksIn Permille (w .prefix) (w .suffix)
+  pub percents : h .percents ≡ marksIn percentMark w
+  pub permilles : h .permilles ≡ marksIn permilleMark w
 
 -- the half that is read of a subpattern before what ends it
 module _ (a r : List ℕ) (w : IsSub a) (e : ends r ≡ true) where
-  marks-read : (m : Mark) → marksOf m (a ++ r) ≡ marksIn m (w .prefix) (w .suffix)
+  marks-read : (m : Mark) → marksOf m (a ++ r) ≡ marks m (items (w .prefix)) + marks m (items (w .suffix))
   marks-read m =
       let t = parts-before a r w e in
       ap (λ (l : List ℕ). marks m (items l) + marks m (items (suffixOf (a ++ r)))) (t .0)
@@ -70,8 +71,8 @@ module _ (a r : List ℕ) (w : IsSub a) (e : ends r ≡ true) where
         primary = ap primaryOf l;
         secondary = ap secondaryOf l;
         step = ap stepOf (d .part) ∙ step-is (w .number) p;
-        percents = marks-read Percent;
-        permilles = marks-read Permille;
+        percents = marks-read Percent ∙ rw (marks-bare (w .prefix-is) .0, marks-bare (w .suffix-is) .0);
+        permilles = marks-read Permille ∙ rw (marks-bare (w .prefix-is) .1, marks-bare (w .suffix-is) .1);
       }
 
 pub alone-meant : (s : List ℕ) (w : IsSub s) → Meant w (halfOf s)
@@ -149,13 +150,12 @@ module _ {a : List ℕ} (w : IsSub a) (h : Half) (m : Meant w h) where
   step-told = rw (m .step) (below-told maxStep (stepIn (w .number-is)))
 
   pub marks-told : Told (manyMarks h) (ManyMarks a w)
-  marks-told = rw (m .percents, m .permilles) (below-told 1 (marksIn Percent (w .prefix) (w .suffix) + marksIn Permille (w .prefix) (w .suffix)))
+  marks-told = rw (m .percents, m .permilles) (below-told 1 (marksIn percentMark w + marksIn permilleMark w))
 
 pub same-told : {a b : List ℕ} (w : IsSub a) (v : IsSub b) (h k : Half) → Meant w h → Meant v k → Told (sameMarks h k) (SameMarks w v)
 same-told w v h k m n =
     rw (m .percents, m .permilles, n .percents, n .permilles)
-    (both-told (equal-told (marksIn Percent (w .prefix) (w .suffix)) (marksIn Percent (v .prefix) (v .suffix)))
-    (equal-told (marksIn Permille (w .prefix) (w .suffix)) (marksIn Permille (v .prefix) (v .suffix))))
+    (both-told (equal-told (marksIn percentMark w) (marksIn percentMark v)) (equal-told (marksIn permilleMark w) (marksIn permilleMark v)))
 
 -- ---- what is read
 
@@ -165,7 +165,7 @@ one-mark x h =
     tested (eqb x 1) (λ k. rw (k, lt-ltb 0 x (omega (arith, eqb-true x 1 k))))
     (λ k. rw k (tested (ltb 0 x) (λ l. absurd (eqb-false x 1 k (omega (arith, ltb-true 0 x l)))) (λ l. l)))
 
-factor-meant : {a : List ℕ} (w : IsSub a) (h : Half) → Meant w h → manyMarks h ≡ false → factorOf h ≡ factorIn (w .prefix) (w .suffix)
+factor-meant : {a : List ℕ} (w : IsSub a) (h : Half) → Meant w h → manyMarks h ≡ false → factorOf h ≡ factorIn w
 factor-meant w h m k =
     let l : h .percents + h .permilles ≤ 1 = ltb-false 1 (h .percents + h .permilles) k in
     rw (one-mark (h .percents) (omega (arith, l)), one-mark (h .permilles) (omega (arith, l)), m .percents, m .permilles)

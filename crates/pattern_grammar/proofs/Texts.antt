@@ -3,7 +3,7 @@
 use mathlib.Core.Path.{_≡_, refl, sym, ap, subst, _∙_}
 use mathlib.Core.List.{List, [], _∷_, _++_, append-nil}
 use mathlib.Core.Logic.{_↔_, inl}
-use Prim.Native.Nat.{ℕ, zero, suc, _+_, _≤_, _<_}
+use Prim.Native.Nat.{ℕ, zero, suc, _+_, _≤_}
 use native.Mathlib.Omega.{arith}
 use borrow.Author.Tests.{eqb-true, eqb-false}
 use lib.Dec.{eqb}
@@ -11,7 +11,7 @@ use lib.ListN.{length, take, drop}
 use lib.Seq.{take-at, take-length, drop-at, drop-drop}
 use Rattle.decimal.specs.Choice.{if_then_else_}
 use Rattle.decimal.proofs.Choices.{tested}
-use Rattle.lexer.specs.declared.Mark.the-variants.{Percent, Permille}
+use Rattle.lexer.specs.Items.{permille as permilleMark}
 use Rattle.pattern.specs.declared.Negative.{Negative}
 use Rattle.pattern.specs.declared.Negative.the-variants.{MinusSymbol}
 use Rattle.pattern.specs.declared.Pattern.{Pattern}
@@ -19,9 +19,10 @@ use Rattle.pattern.specs.declared.PatternReading.{PatternReading}
 use Rattle.pattern.specs.declared.PatternReading.the-variants.{Is}
 use Rattle.pattern.specs.Reading.{span, readPattern}
 use Rattle.pattern_grammar.specs.Grammar.{IsSub, IsPattern, one, two}
-use Rattle.pattern_grammar.specs.Meaning.{marksIn, factorIn, ManyMarks, InEither, OtherMarks, asked, ownIn, patternIn}
+use Rattle.pattern_grammar.specs.Meaning.{percentMark, marksIn, factorIn, ManyMarks, InEither, InFirst, OtherMarks, asked, ownIn, patternIn}
 use Rattle.pattern_grammar.specs.Verdict.{Plain, Past35, Verdict, too-long, not-utf8, reserved, not-a-pattern, many-places, large-step, many-marks, other-marks, read}
-use Rattle.pattern_grammar.specs.Texts.{Parts, Affixes, prefixIn, suffixIn, Multiplies}
+use Rattle.pattern_grammar.specs.Texts.{Parts, Affixes, Multiplies}
+use Rattle.pattern_grammar.proofs.Groups.{groups-found}
 use Rattle.pattern_grammar.proofs.Subpatterns.{drop-two, sub-before, second-text}
 use Rattle.pattern_grammar.proofs.Meanings.{no-more}
 use Rattle.pattern_grammar.proofs.Verdicts.{verdict-given, verdict-found, refused-or-read, not-read}
@@ -63,7 +64,7 @@ same-meaning s w v p e = read-asks s w p e .is ∙ sym (read-asks s v p e .is)
 
 -- ---- where the parts of a subpattern stand
 
-asked-parts : (a r : List ℕ) (w : IsSub a) (n : Negative) → Parts (a ++ r) (asked w n) (w .prefix) (w .number) (w .suffix)
+asked-parts : (a r : List ℕ) (w : IsSub a) (n : Negative) → Parts (a ++ r) (asked w n) w
 asked-parts a r w n =
     let t = sub-before a r w in
     let x = w .suffix ++ r in
@@ -71,12 +72,10 @@ asked-parts a r w n =
       prefix-text = rw t (take-at (w .prefix) (w .number ++ x) (length (w .prefix)) refl);
       number-text = rw (t, drop-at (w .prefix) (w .number ++ x) (length (w .prefix)) refl) (take-at (w .number) x (length (w .number)) refl);
       suffix-text = rw (t, drop-two (w .prefix) (w .number) x) (take-at (w .suffix) r (length (w .suffix)) refl);
-      part = w .number-is;
       least = refl;
       fraction = refl;
       most = refl;
-      primary = refl;
-      secondary = refl;
+      groups = groups-found (w .number-is .whole);
       step = refl;
       factor = refl;
     }
@@ -84,11 +83,11 @@ asked-parts a r w n =
 -- ---- a pattern of one subpattern
 
 pub one-read : (s : List ℕ) (w : IsSub s) (p : Pattern) → readPattern s ≡ Is p
-    → Parts s p (w .prefix) (w .number) (w .suffix) × (p .negative ≡ MinusSymbol)
+    → Parts s p w × (p .negative ≡ MinusSymbol)
 one-read s w p e =
     let same = read-asks s (one w) p e .is in
-    let h : Parts s (asked w MinusSymbol) (w .prefix) (w .number) (w .suffix) = rw append-nil at (asked-parts s [] w MinusSymbol) in
-    (subst (λ (q : Pattern). Parts s q (w .prefix) (w .number) (w .suffix)) same h, sym (ap (λ (q : Pattern). q .negative) same))
+    let h : Parts s (asked w MinusSymbol) w = rw append-nil at (asked-parts s [] w MinusSymbol) in
+    (subst (λ (q : Pattern). Parts s q w) same h, sym (ap (λ (q : Pattern). q .negative) same))
 
 -- ---- a pattern of two
 
@@ -116,11 +115,11 @@ own-texts a b v =
         sym (drop-drop (k + n) at s ∙ ap (λ (m : ℕ). drop m s) e)
 
 pub two-read : (a b : List ℕ) (w : IsSub a) (v : IsSub b) (p : Pattern) → readPattern (a ++ (59 ∷ b)) ≡ Is p
-    → Parts (a ++ (59 ∷ b)) p (w .prefix) (w .number) (w .suffix) × Affixes (a ++ (59 ∷ b)) (p .negative) (v .prefix) (v .suffix)
+    → Parts (a ++ (59 ∷ b)) p w × Affixes (a ++ (59 ∷ b)) (p .negative) (v .prefix) (v .suffix)
 two-read a b w v p e =
     let s = a ++ (59 ∷ b) in
     let n = ownIn (length a + 1) v in
-    subst (λ (q : Pattern). Parts s q (w .prefix) (w .number) (w .suffix) × Affixes s (q .negative) (v .prefix) (v .suffix))
+    subst (λ (q : Pattern). Parts s q w × Affixes s (q .negative) (v .prefix) (v .suffix))
     (read-asks s (two w v) p e .is) (asked-parts a (59 ∷ b) w n, own-texts a b v)
 
 -- ---- what the value is multiplied by
@@ -151,19 +150,18 @@ multiplied x y h =
     none (suc zero) n h = absurd (n refl)
     none (suc (suc x)) n h = absurd (omega arith)
 
-affixes-multiply : (prefix suffix : List ℕ) → (1 < marksIn Percent prefix suffix + marksIn Permille prefix suffix → ⊥)
-    → Multiplies (factorIn prefix suffix) prefix suffix
-affixes-multiply prefix suffix n =
-    let x = marksIn Percent prefix suffix in
-    let y = marksIn Permille prefix suffix in
+marks-multiply : {s : List ℕ} (w : IsSub s) → (ManyMarks s w → ⊥) → Multiplies (factorIn w) s w
+marks-multiply w n =
+    let x = marksIn percentMark w in
+    let y = marksIn permilleMark w in
     let m = multiplied x y (no-more 1 (x + y) n) in
     record { percent = m .0; permille = m .1; neither = m .2 }
 
-factor-asked : {s : List ℕ} (w : IsPattern s) → (InEither ManyMarks w → ⊥) → Multiplies (patternIn w .factor) (prefixIn w) (suffixIn w)
-factor-asked (one w) n = affixes-multiply (w .prefix) (w .suffix) n
-factor-asked (two w v) n = affixes-multiply (w .prefix) (w .suffix) (λ m. n (inl m))
+factor-asked : {s : List ℕ} (w : IsPattern s) → (InEither ManyMarks w → ⊥) → InFirst (Multiplies (patternIn w .factor)) w
+factor-asked (one w) n = marks-multiply w n
+factor-asked (two w v) n = marks-multiply w (λ m. n (inl m))
 
-pub factor-is : (s : List ℕ) (w : IsPattern s) (p : Pattern) → readPattern s ≡ Is p → Multiplies (p .factor) (prefixIn w) (suffixIn w)
+pub factor-is : (s : List ℕ) (w : IsPattern s) (p : Pattern) → readPattern s ≡ Is p → InFirst (Multiplies (p .factor)) w
 factor-is s w p e =
     let a = read-asks s w p e in
-    subst (λ (q : Pattern). Multiplies (q .factor) (prefixIn w) (suffixIn w)) (a .is) (factor-asked w (a .few))
+    subst (λ (q : Pattern). InFirst (Multiplies (q .factor)) w) (a .is) (factor-asked w (a .few))

@@ -11,6 +11,7 @@ use Rattle.decimal.specs.Choice.{if_then_else_, both, either}
 use Rattle.decimal.proofs.Choices.{tested, not-both}
 use Rattle.utf8.specs.Utf8.{isUtf8}
 use Rattle.utf8.proofs.Lower.{either-false}
+use Rattle.utf8.proofs.Scalars.{utf8-sound}
 use Rattle.lexer.specs.Items.{items}
 use Rattle.lexer.specs.Affixes.{anyReserved}
 use Rattle.answer.specs.declared.PatternRow.{PatternRow}
@@ -26,6 +27,7 @@ use Rattle.pattern.specs.Reading.{halfOf, endOf, fits, manyPlaces, stepOver, ma
 use Rattle.pattern_grammar.specs.Grammar.{IsSub, IsPattern, one, two}
 use Rattle.pattern_grammar.specs.Meaning.{ManyPlaces, StepOver, ManyMarks, InEither, OtherMarks, ownIn, patternIn}
 use Rattle.pattern_grammar.specs.Verdict.{Plain, Past34, Past35, Verdict, too-long, not-utf8, reserved, not-a-pattern, many-places, large-step, many-marks, other-marks, read}
+use Rattle.pattern_grammar.proofs.Reserved.{reserved-told, text-utf8, plain-items}
 use Rattle.pattern_grammar.proofs.Halves.{wellFormed, secondHalf, negativeOf}
 use Rattle.pattern_grammar.proofs.Subpatterns.{read-end, second-text, pattern-sound, pattern-complete}
 use Rattle.pattern_grammar.proofs.Meanings.{Meant, half-meant, alone-meant, Told, holds, fails, settled, either-told, twice-told, not-told, not-holds, not-fails, places-told, step-told, marks-told, same-told, pattern-meant, own-meant}
@@ -149,7 +151,7 @@ grounds (two {a} {b} w v) = two-grounds a b w v
 -- ---- each row's condition gives its answer
 
 plain-read : (s : List ℕ) → Plain s → readPattern s ≡ halves s
-plain-read s p = rw (le-ltb maxBytes (length s) (p .short), p .utf8, p .unreserved)
+plain-read s p = rw (le-ltb maxBytes (length s) (p .short), text-utf8 s (p .utf8), plain-items s p)
 
 not-formed : (s : List ℕ) → (IsPattern s → ⊥) → wellFormed s ≡ false
 not-formed s f = tested (wellFormed s) (λ k. absurd (f (pattern-sound s k))) (λ k. k)
@@ -185,8 +187,10 @@ module _ (a b : Half) (n : Negative) where
 -- "given exactly when": the answer whose row's condition holds is the reader's answer ..
 pub verdict-given : (s : List ℕ) {r : PatternReading} → Verdict s r → readPattern s ≡ r
 verdict-given s (too-long h) = rw (lt-ltb maxBytes (length s) h)
-verdict-given s (not-utf8 h u) = rw (le-ltb maxBytes (length s) h, u)
-verdict-given s (reserved h u a) = rw (le-ltb maxBytes (length s) h, u, a)
+verdict-given s (not-utf8 h u) =
+    let k : isUtf8 s ≡ false = tested (isUtf8 s) (λ k. absurd (u (utf8-sound s k))) (λ k. k) in
+    rw (le-ltb maxBytes (length s) h, k)
+verdict-given s (reserved h u a) = rw (le-ltb maxBytes (length s) h, text-utf8 s u, reserved-told s .1 a)
 verdict-given s (not-a-pattern p f) = plain-read s p ∙ halves-bad s (not-formed s f)
 verdict-given s (many-places p w e) =
     let g = grounds w in
@@ -243,9 +247,10 @@ verdict-found s = tested (ltb maxBytes (length s)) (λ k. made s (too-long (ltb-
         let h = ltb-false maxBytes (length s) k in
         tested (isUtf8 s)
         (λ u.
-        tested (anyReserved (items s)) (λ a. made s (reserved h u a))
-        (λ a. formed (record { short = h; utf8 = u; unreserved = a })))
-        (λ u. made s (not-utf8 h u))
+        let t = utf8-sound s u in
+        tested (anyReserved (items s)) (λ a. made s (reserved h t (reserved-told s .0 a)))
+        (λ a. formed (record { short = h; utf8 = t; unreserved = λ r. not-both (reserved-told s .1 r) a })))
+        (λ u. made s (not-utf8 h (λ t. not-both (text-utf8 s t) u)))
 
 -- a refusal is not a pattern that is read
 pub not-read : {A : Type 0} (row : PatternRow) (p : Pattern) → refuse row ≡ Is p → A

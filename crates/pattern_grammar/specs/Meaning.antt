@@ -1,5 +1,6 @@
 -- Document 01, "The pattern": what a pattern asks for, over the grammar's parts.
-use mathlib.Core.List.{List, _++_, map}
+use mathlib.Core.Bool.{Bool, false}
+use mathlib.Core.List.{List, [], _∷_, _++_, map}
 use mathlib.Core.Logic.{_⊎_}
 use mathlib.Core.Path.{_≡_}
 use Prim.Native.Nat.{ℕ, _+_, _<_}
@@ -7,10 +8,7 @@ use lib.Dec.{eqb}
 use lib.ListN.{length}
 use Rattle.decimal.specs.Choice.{if_then_else_}
 use Rattle.decimal.specs.Digits.{value}
-use Rattle.lexer.specs.declared.Mark.{Mark}
-use Rattle.lexer.specs.declared.Mark.the-variants.{Percent, Permille}
-use Rattle.lexer.specs.Items.{items}
-use Rattle.lexer.specs.Affixes.{marks}
+use Rattle.lexer.specs.Items.{starts, permille as permilleMark}
 use Rattle.numberpart.specs.Shape.{digits, primaryOf, secondaryOf}
 use Rattle.pattern.specs.Limits.{maxWhole, maxFraction, maxStep}
 use Rattle.pattern.specs.Reading.{span}
@@ -18,7 +16,7 @@ use Rattle.pattern.specs.declared.Negative.{Negative}
 use Rattle.pattern.specs.declared.Negative.the-variants.{MinusSymbol, Own}
 use Rattle.pattern.specs.declared.Pattern.{Pattern}
 use Rattle.pattern_grammar.specs.NumberPart.{dropCommas, IsPart}
-use Rattle.pattern_grammar.specs.Grammar.{IsSub, IsPattern, one, two}
+use Rattle.pattern_grammar.specs.Grammar.{IsAffix, done, apostrophe, quote, literal, bare, IsSub, IsPattern, one, two}
 
 -- ---- the step: "read the number part with `#` as 0 and commas dropped. If that is zero, the step is one unit of the last fraction place."
 
@@ -28,14 +26,39 @@ asZero b = if eqb b 35 then 48 else b
 abbrev pub stepIn : {n : List ℕ} → IsPart n → ℕ
 stepIn p = let u = value (map asZero (dropCommas (p .whole) ++ p .fraction)) in if eqb u 0 then 1 else u
 
--- ---- marks: how often one stands bare in a prefix and a suffix
+-- ---- groups: "The primary group is the places after the last comma; the secondary those between the last two, else equal to the primary."
 
-abbrev pub marksIn : Mark → List ℕ → List ℕ → ℕ
-marksIn m prefix suffix = marks m (items prefix) + marks m (items suffix)
+pub data NoComma : List ℕ → Type 0 where
+  empty : NoComma []
+  other : {b : ℕ} {w : List ℕ} → eqb b 44 ≡ false → NoComma w → NoComma (b ∷ w)
+
+-- the sizes of the primary and the secondary group of integer places. "No comma, no groups": 0
+pub data Groups : List ℕ → ℕ → ℕ → Type 0 where
+  none : {w : List ℕ} → NoComma w → Groups w 0 0
+  one-comma : {a b : List ℕ} → NoComma a → NoComma b → Groups (a ++ (44 ∷ b)) (length b) (length b)
+  more-commas : (a : List ℕ) {b c : List ℕ} → NoComma b → NoComma c → Groups (a ++ (44 ∷ (b ++ (44 ∷ c)))) (length c) (length b)
+
+-- ---- marks
+
+-- `%`, as `permilleMark` is `‰`
+abbrev pub percentMark : List ℕ
+percentMark = 37 ∷ []
+
+-- how often a mark stands bare in an affix
+abbrev pub bareCount : {q : Bool} {s : List ℕ} → List ℕ → IsAffix q s → ℕ
+bareCount mark done = 0
+bareCount mark (apostrophe a) = bareCount mark a
+bareCount mark (quote e a) = bareCount mark a
+bareCount mark (literal e a) = bareCount mark a
+bareCount mark (bare {b = b} {t = t} e a) = (if starts mark (b ∷ t) then 1 else 0) + bareCount mark a
+
+-- and in both affixes of a subpattern
+abbrev pub marksIn : {s : List ℕ} → List ℕ → IsSub s → ℕ
+marksIn mark w = bareCount mark (w .prefix-is) + bareCount mark (w .suffix-is)
 
 -- "`%` multiplies by 100, `‰` by 1000"
-abbrev pub factorIn : List ℕ → List ℕ → ℕ
-factorIn prefix suffix = if eqb (marksIn Percent prefix suffix) 1 then 100 else if eqb (marksIn Permille prefix suffix) 1 then 1000 else 1
+abbrev pub factorIn : {s : List ℕ} → IsSub s → ℕ
+factorIn w = if eqb (marksIn percentMark w) 1 then 100 else if eqb (marksIn permilleMark w) 1 then 1000 else 1
 
 -- ---- what 34 to 36 say of a subpattern
 
@@ -49,18 +72,21 @@ StepOver s w = maxStep < stepIn (w .number-is)
 
 -- 36: "over one percent or permille mark in a subpattern ..
 abbrev pub ManyMarks : (s : List ℕ) → IsSub s → Type 0
-ManyMarks s w = 1 < marksIn Percent (w .prefix) (w .suffix) + marksIn Permille (w .prefix) (w .suffix)
+ManyMarks s w = 1 < marksIn percentMark w + marksIn permilleMark w
 
 -- .. or the two subpatterns differ in it"
 abbrev pub SameMarks : {a b : List ℕ} → IsSub a → IsSub b → Type 0
-SameMarks w v =
-    (marksIn Percent (w .prefix) (w .suffix) ≡ marksIn Percent (v .prefix) (v .suffix))
-    × (marksIn Permille (w .prefix) (w .suffix) ≡ marksIn Permille (v .prefix) (v .suffix))
+SameMarks w v = (marksIn percentMark w ≡ marksIn percentMark v) × (marksIn permilleMark w ≡ marksIn permilleMark v)
 
 -- of one of a pattern's subpatterns
 abbrev pub InEither : ((a : List ℕ) → IsSub a → Type 0) → {s : List ℕ} → IsPattern s → Type 0
 InEither P (one {s = s} w) = P s w
 InEither P (two {a = a} {b = b} w v) = P a w ⊎ P b v
+
+-- of its first subpattern
+abbrev pub InFirst : ((a : List ℕ) → IsSub a → Type 0) → {s : List ℕ} → IsPattern s → Type 0
+InFirst P (one {s = s} w) = P s w
+InFirst P (two {a = a} w v) = P a w
 
 abbrev pub OtherMarks : {s : List ℕ} → IsPattern s → Type 0
 OtherMarks (one w) = ⊥
@@ -81,7 +107,7 @@ asked w negative =
       primary = primaryOf (w .number-is .whole);
       secondary = secondaryOf (w .number-is .whole);
       step = stepIn (w .number-is);
-      factor = factorIn (w .prefix) (w .suffix);
+      factor = factorIn w;
       negative = negative;
     }
 

@@ -1,26 +1,23 @@
 -- Document 01's table, rows 30 to 36: which answer a pattern gets, in terms of the grammar. "Within one input the lowest number wins"; "34 and 35
 -- judge both subpatterns."
-use mathlib.Core.Path.{_≡_}
-use mathlib.Core.Bool.{true, false}
 use mathlib.Core.List.{List}
 use Prim.Native.Nat.{ℕ, _≤_, _<_}
 use lib.ListN.{length}
-use Rattle.utf8.specs.Utf8.{isUtf8}
-use Rattle.lexer.specs.Items.{items}
-use Rattle.lexer.specs.Affixes.{anyReserved}
+use Rattle.utf8.specs.Scalar.{IsText}
 use Rattle.answer.specs.declared.PatternRow.the-variants.{PatternTooLong, PatternNotUtf8, ReservedByte, NotAPattern, TooManyPlaces, StepTooLarge, PercentMismatch}
 use Rattle.pattern.specs.Limits.{maxBytes}
 use Rattle.pattern.specs.declared.PatternReading.{PatternReading}
 use Rattle.pattern.specs.declared.PatternReading.the-variants.{Is}
 use Rattle.pattern.specs.Reading.{refuse}
 use Rattle.pattern_grammar.specs.Grammar.{IsPattern}
+use Rattle.pattern_grammar.specs.Reserved.{Reserved}
 use Rattle.pattern_grammar.specs.Meaning.{ManyPlaces, StepOver, ManyMarks, InEither, OtherMarks, patternIn}
 
 -- rows 30 to 32 do not refuse the pattern
 pub record Plain (s : List ℕ) : Type 0 where
   pub short : length s ≤ maxBytes
-  pub utf8 : isUtf8 s ≡ true
-  pub unreserved : anyReserved (items s) ≡ false
+  pub utf8 : IsText s
+  pub unreserved : Reserved s → ⊥
 
 -- a pattern to which rows 30 to 34 do not apply, and one to which row 35 does not either
 pub record Past34 {s : List ℕ} (w : IsPattern s) : Type 0 where
@@ -35,9 +32,9 @@ pub data Verdict (s : List ℕ) : PatternReading → Type 0 where
   -- 30: "pattern over 256 bytes"
   too-long : maxBytes < length s → Verdict s (refuse PatternTooLong)
   -- 31: "pattern not UTF-8"
-  not-utf8 : length s ≤ maxBytes → isUtf8 s ≡ false → Verdict s (refuse PatternNotUtf8)
+  not-utf8 : length s ≤ maxBytes → (IsText s → ⊥) → Verdict s (refuse PatternNotUtf8)
   -- 32: "bare `¤`, `*`, `@`, or `E` after a number-part byte"
-  reserved : length s ≤ maxBytes → isUtf8 s ≡ true → anyReserved (items s) ≡ true → Verdict s (refuse ReservedByte)
+  reserved : length s ≤ maxBytes → IsText s → Reserved s → Verdict s (refuse ReservedByte)
   -- 33: "not the pattern grammar, quote left open"
   not-a-pattern : Plain s → (IsPattern s → ⊥) → Verdict s (refuse NotAPattern)
   -- 34: "over 15 integer or 9 fraction places"

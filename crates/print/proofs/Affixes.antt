@@ -9,7 +9,6 @@ use borrow.Author.Tests.{eqb-true}
 use lib.Dec.{eqb}
 use lib.ListN.{drop}
 use Rattle.decimal.specs.Choice.{if_then_else_, both}
-use Rattle.decimal.specs.Digits.{begins}
 use Rattle.decimal.proofs.Choices.{tested, not-both}
 use Rattle.utf8.proofs.Lower.{both-true}
 use Rattle.lexer.specs.declared.Item.{Item}
@@ -19,17 +18,12 @@ use Rattle.lexer.specs.Items.{starts, permille, currency, isReserved, token, to
 use Rattle.lexer.specs.Affixes.{reserves, anyReserved}
 use Rattle.symbols.specs.declared.Symbol.{Symbol}
 use Rattle.pattern_grammar.specs.Grammar.{isBare, IsAffix, done as no-more, apostrophe as pair, quote as mark, literal as inside, bare}
-use Rattle.pattern_grammar.proofs.Affixes.{bare-parts, begins-cons}
+use Rattle.pattern_grammar.proofs.Affixes.{bare-parts, single}
 use Rattle.layout.specs.Text.{rendered}
 use Rattle.print.specs.Text.{isLiteral, AffixText, done, apostrophe, quote, quoted, percent, plus, minus, permille-mark, literal}
 use Rattle.print.proofs.Cuts.{CleanAffix}
 
 -- ---- tokens
-
--- a quote that stands alone is no pair
-alone : (s : List ℕ) → begins 39 s ≡ false → starts (39 ∷ []) s ≡ false
-alone [] e = refl
-alone (b ∷ s) e = rw (sym (begins-cons b s) ∙ e)
 
 -- what a literal byte is not, and is
 record Literal (b : ℕ) (s : List ℕ) : Type 0 where
@@ -81,7 +75,7 @@ module _ (symbol : Symbol → List ℕ) where
       → t ≡ rendered symbol (itemsFrom q false 0 s)
   affix-rendered done u = refl
   affix-rendered (apostrophe a) u = ap (λ (l : List ℕ). 39 ∷ l) (affix-rendered a u)
-  affix-rendered (quote {q} {s} {t} f a) u = rw (alone s f) (affix-rendered a (rw (alone s f) at u))
+  affix-rendered (quote {q} {s} {t} f a) u = rw (single s f) (affix-rendered a (rw (single s f) at u))
   affix-rendered (quoted {b} {s} {t} f a) u = rw f (ap (λ (l : List ℕ). b ∷ l) (affix-rendered a (rw f at u)))
   affix-rendered (percent a) u = rw (affix-rendered a u)
   affix-rendered (plus a) u = rw (affix-rendered a u)
@@ -140,7 +134,7 @@ module _ (symbol : Symbol → List ℕ) where
   affix-prints no-more (suc k) z h u = not-both h refl
   affix-prints (pair a) zero z h u = apostrophe (affix-prints a 0 (λ _. refl) refl u)
   affix-prints (pair a) (suc k) z h u = not-both h refl
-  affix-prints (mark {q} {t} f a) zero z h u = rw (alone t f) (quote f (affix-prints a 0 (λ _. refl) refl (rw (alone t f) at u)))
+  affix-prints (mark {q} {t} f a) zero z h u = rw (single t f) (quote f (affix-prints a 0 (λ _. refl) refl (rw (single t f) at u)))
   affix-prints (mark f a) (suc k) z h u = not-both h refl
   affix-prints (inside {b} {t} f a) zero z h u = rw f (quoted f (affix-prints a 0 (λ _. refl) refl (rw f at u)))
   affix-prints (inside f a) (suc k) z h u = absurd (no (z refl))

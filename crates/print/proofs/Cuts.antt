@@ -27,6 +27,7 @@ use Rattle.pattern_grammar.specs.NumberPart.{IsPart}
 use Rattle.pattern_grammar.specs.Grammar.{IsAffix, IsSub, IsPattern, one, two}
 use Rattle.pattern_grammar.specs.Texts.{textAt, Affixes}
 use Rattle.pattern_grammar.proofs.Affixes.{stops, affix-found}
+use Rattle.pattern_grammar.proofs.Reserved.{plain-items}
 use Rattle.pattern_grammar.proofs.Subpatterns.{ends, read-sub}
 use Rattle.pattern_grammar.proofs.Texts.{read-plain, one-read, two-read}
 
@@ -231,4 +232,4 @@ pattern-affixes (two {a} {b} w v) u p e =
         record { prefix = rw (sym i, x .prefix-text) y; suffix = rw (sym j, x .suffix-text) z }
 
 pub pattern-clean : (s : List ℕ) (p : Pattern) → readPattern s ≡ Is p → PatternClean s p
-pattern-clean s p e = let r = read-plain s p e in pattern-affixes (r .1) (r .0 .unreserved) p e
+pattern-clean s p e = let r = read-plain s p e in pattern-affixes (r .1) (plain-items s (r .0)) p e
