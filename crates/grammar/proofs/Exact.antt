@@ -66,15 +66,6 @@ same-of s =
     let k = some-segments s in
     same-halt [] 0 (firstOf (segments s)) (othersOf (segments s)) (rw k at (plain-segments s)) ∙ ap (λ (l : List Text). behind [] (rulesFrom 0 l)) (sym k)
 
--- SOUND
-pub sound-pack : (s : Text) (rs : List RuleTree) → rulesFrom 0 (segments s) ≡ Trees rs → (p : PackTree) × (rightPack p ≡ true) × (texts (tokensOf s) ≡ ofPack p) × (rs ≡ rulesOf p)
-sound-pack s rs e =
-    let n = ended outset (tokensOf s) (packEnd 0 (firstOf (segments s)) (othersOf (segments s))) rs (same-of s ∙ ap (behind []) e) in
-    let f = far outset (texts (tokensOf s)) in
-    let b = been outset [] (texts (tokensOf s)) (whole-alive (f .state) (n .0) (n .1)) ([], refl, refl, refl) in
-    let w = told-rule (f .state) (b .0) (n .0) (n .1) (b .2) in
-    (Parted (f .rules) (n .0), both-in (b .3) (w .1), b .1 ∙ ap (λ (l : List Text). each ofRule semi (f .rules) ++ l) (w .0), n .2)
-
 -- COMPLETE
 pub complete-pack : (s : Text) (p : PackTree) → rightPack p ≡ true → texts (tokensOf s) ≡ ofPack p → rulesFrom 0 (segments s) ≡ Trees (rulesOf p)
 complete-pack s (Parted qs r) g e =

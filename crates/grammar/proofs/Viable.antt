@@ -390,15 +390,6 @@ same-halt d at x (y ∷ ys) g =
     go (Fine r) h = h r ∙ more r tail
     go (Stuck a) h = refl
 
-pub first-wrong : (x : Text) (xs : List Text) (a : ℕ) → all plain (x ∷ xs) ≡ true → rulesFrom 0 (x ∷ xs) ≡ Bad a
-    → Culprit (packTokens 0 x xs) a ⊎ Unfinished (packTokens 0 x xs) (packEnd 0 x xs) a
-first-wrong x xs a g e = told (halts outset (packTokens 0 x xs) (packEnd 0 x xs) a refl (same-halt [] 0 x xs g ∙ ap (behind []) e))
-  where
-    told : There outset (packTokens 0 x xs) a ⊎ AtEnd outset (packTokens 0 x xs) (packEnd 0 x xs) a
-        → Culprit (packTokens 0 x xs) a ⊎ Unfinished (packTokens 0 x xs) (packEnd 0 x xs) a
-    told (inl w) = inl (record { before = w .before; token = w .token; after = w .after; is = w .is; place = w .place; some = viable (texts (w .before)) (w .alive); none = never (texts (w .before) ++ (w .token .text ∷ [])) (w .dead) })
-    told (inr w) = inr (record { place = w .place; some = viable (texts (packTokens 0 x xs)) (w .alive); none = not-ended (texts (packTokens 0 x xs)) (w .cut) })
-
 -- The same of a text: its segments hold no `;`, and the last ends where the text does.
 pub plain-segments : (s : Text) → all plain (segments s) ≡ true
 plain-segments [] = refl
@@ -452,10 +443,3 @@ end-is a (b ∷ s) = go (eqb b 59) (segments s) (some-segments s) (end-is (a + 1
 -- the tokens of a text, `;` among them
 abbrev pub tokensOf : Text → List Token
 tokensOf s = packTokens 0 (firstOf (segments s)) (othersOf (segments s))
-
--- VIABLE PREFIX
-pub first-wrong-of : (s : Text) (a : ℕ) → rulesFrom 0 (segments s) ≡ Bad a → Culprit (tokensOf s) a ⊎ Unfinished (tokensOf s) (length s) a
-first-wrong-of s a e =
-    let k = some-segments s in
-    let q : packEnd 0 (firstOf (segments s)) (othersOf (segments s)) ≡ length s = omega (arith, end-is 0 s) in
-    rw q at (first-wrong (firstOf (segments s)) (othersOf (segments s)) a (rw k at (plain-segments s)) (rw k at e))
