@@ -1,4 +1,4 @@
-// What the pack check answers, and the laws of its search. There is no code here.
+// What the pack check answers, and the laws of its search. There are types here and no function.
 //
 // specs/Check.antt is the definition, a search over all admitted numbers in document 01's order;
 // specs/Fast.antt is the search that is run, by leaps; proofs/FastIs.antt shows that they agree.

@@ -1,4 +1,5 @@
--- What the arrays of a parsed pack have room for: six rules, five of them with a condition, 40 clauses, 320 relations and 2,047 values or ranges.
+-- How much a pack that is read holds at most: six rules, five of them with a condition, 40 clauses, 320 relations and 2,047 values or ranges. The arrays
+-- of a parsed pack have room for it.
 use mathlib.Core.List.{List, [], _∷_, _++_, map}
 use Prim.Native.Nat.{ℕ, _+_, _≤_, _<_}
 use lib.ListN.{length}

@@ -1,7 +1,7 @@
 // Reads a pattern: refusals 30 to 36, and where its parts stand and what its number part asks for.
 //
-// The entry is read_pattern. specs/Reading.antt says what is read, specs/Grammar.antt what a pattern
-// is, specs/Limits.antt the bounds, each of which is one constant here.
+// The entry is read_pattern. specs/Reading.antt says what is read, specs/Limits.antt the bounds, each
+// of which is one constant here; crate pattern_grammar, specs/Grammar.antt, what a pattern is.
 ghost use mathlib.Core.Path.{_≡_};
 ghost use mathlib.Core.List.{[], _∷_};
 ghost use Prim.Native.Nat.{_+_, _≤_, _<_};

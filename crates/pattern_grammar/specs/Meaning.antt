@@ -104,6 +104,7 @@ asked w negative =
       least = digits (w .number-is .whole);
       fraction = digits (w .number-is .fraction);
       most = length (w .number-is .fraction);
+      -- the sizes that `Groups` gives them (`groups-told`)
       primary = primaryOf (w .number-is .whole);
       secondary = secondaryOf (w .number-is .whole);
       step = stepIn (w .number-is);

@@ -72,9 +72,9 @@ area-short t area k e =
     let z : _≡_ {A = ℕ} 0 1 = cc in
     never z)
 
--- a success is told by the text's length, and the text stands at the front
+-- a success is told by the text's length, the text fits, and it stands at the front
 pub area-text : (o : Outcome) (area : List ℕ) (k : ℕ) → answerOf o area ≡ Text k
-    → (t : List ℕ) × (o ≡ text t) × (k ≡ length t) × (areaOf o area ≡ t ++ drop k area)
+    → (t : List ℕ) × (o ≡ text t) × (k ≡ length t) × (length t ≤ length area) × (areaOf o area ≡ t ++ drop k area)
 area-text (refused r) area k e = let z : _≡_ {A = ℕ} 0 1 = cc in never z
 area-text (text t) area k e =
     tested (tooLong t area)
@@ -85,7 +85,7 @@ area-text (text t) area k e =
     (λ h.
     let f : Text (length t) ≡ Text k = rw h at e in
     let g : length t ≡ k = cc in
-    (t, refl, sym g, rw h (rw g)))
+    (t, refl, sym g, ltb-false (length area) (length t) h, rw h (rw g)))
 
 -- a refusal leaves every byte
 pub area-kept : (o : Outcome) (area : List ℕ) (r : Refusal) → answerOf o area ≡ Refused r → areaOf o area ≡ area
