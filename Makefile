@@ -21,10 +21,11 @@ demo:
 
 # A static library: proved, then compiled.
 target/staticlib/lib%.a: $(SOURCES)
-	@mkdir -p target/c
+	@mkdir -p target
 	@rt staticlib $* > target/$*.log 2>&1 || { cat target/$*.log; exit 1; }
 
 example: $(SCREEN)
+	@mkdir -p target/c
 	@cc $(CC_FLAGS) c/example.c $(SCREEN) -o target/c/example
 	@target/c/example
 
@@ -37,6 +38,7 @@ bench: $(SCREEN)
 
 # What links the library: every entry from C with areas of every size, the C example, and the Rust side.
 linked: $(SCREEN)
+	@mkdir -p target/c
 	@cc $(CC_FLAGS) c/areas.c $(SCREEN) -o target/c/areas
 	@target/c/areas
 	@cc $(CC_FLAGS) c/example.c $(SCREEN) -o target/c/example
