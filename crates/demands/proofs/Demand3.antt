@@ -26,8 +26,8 @@ use Rattle.number.proofs.Admissible.{admitted, four-numbers}
 use Rattle.rules.specs.Syntax.{Rule}
 use Rattle.grammar.specs.Reader.{PackAnswer, readPack, segments}
 use Rattle.grammar.specs.Reader.PackAnswer.{Rules, Refused as PackRefused}
-use Rattle.grammar.specs.Segment.{AreRules}
-use Rattle.grammar.proofs.Shuffle.{segmentRule, perm-rules, rules-are, added-rules as read-added, shuffle as read-shuffle, larger as read-larger}
+use Rattle.grammar.specs.Segment.{AreRules, segmentRule}
+use Rattle.grammar.proofs.Shuffle.{perm-rules, rules-are, added-rules as read-added, shuffle as read-shuffle, larger as read-larger}
 use Rattle.plural.specs.Meaning.{meets}
 use Rattle.plural.specs.Select.{metBy, countMet, firstMet, secondMet, keywordAt, selection}
 use Rattle.plural.specs.Words.{MeetsAt}

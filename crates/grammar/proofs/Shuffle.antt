@@ -11,12 +11,11 @@ use Rattle.decimal.specs.Split.{onFirst}
 use Rattle.decimal.specs.Choice.{if_then_else_, both}
 use Rattle.token.specs.Spelling.{same, among}
 use Rattle.grammar.specs.Grammar.{Text, all, RuleTree, ofRule, rightRule}
-use Rattle.grammar.specs.Grammar.RuleTree.{Bare}
 use Rattle.grammar.specs.Steps.{steps, Read, ends}
 use Rattle.grammar.specs.Steps.State.{WantsName}
 use Rattle.grammar.specs.Steps.Read.{Whole, Cut}
 use Rattle.grammar.specs.Limits.{maxBytes}
-use Rattle.grammar.specs.Segment.{words, IsRule, AreRules, none, more}
+use Rattle.grammar.specs.Segment.{words, IsRule, AreRules, none, more, orAny, readOf, treeOf, segmentRule}
 use Rattle.token.specs.Token.{tokens}
 use Rattle.grammar.specs.Reader.{segments, Stop, stop, Fault, faultIn, again, keywordIn, Parsed, andThen, rulesFrom, faultFrom, judge, readPack}
 use Rattle.grammar.specs.Reader.Stop.{Fine, Stuck}
@@ -31,21 +30,6 @@ use Rattle.grammar.proofs.Laws.{no-way, map-append}
 use Rattle.grammar.proofs.Sound.{sound}
 use Rattle.grammar.proofs.Complete.{complete}
 use Rattle.grammar.proofs.Places.{words-at, fine-whole, whole-fine, clean, or-0, or-1, none-clean, clean-none, firstOf, keyword-first, fresh, again-fresh, fresh-again}
-
--- what a segment's tokens are read as: a rule's tree, or none
-abbrev pub readOf : Text → Read
-readOf x = ends (steps WantsName (words x))
-
--- a pack that is read has no segment without a rule; for one without, any tree serves
-abbrev orAny : Read → RuleTree
-orAny (Whole r) = r
-orAny Cut = Bare []
-
-abbrev pub treeOf : Text → RuleTree
-treeOf x = orAny (readOf x)
-
-abbrev pub segmentRule : Text → Rule
-segmentRule x = ruleOf (treeOf x)
 
 abbrev isWhole : Read → Bool
 isWhole (Whole r) = true

@@ -5,8 +5,12 @@ use mathlib.Core.List.{List, [], _∷_}
 use Rattle.rules.specs.Syntax.{Rule}
 use Rattle.token.specs.Token.{tokens}
 use Rattle.grammar.specs.Grammar.{Text, RuleTree, ofRule, rightRule}
+use Rattle.grammar.specs.Grammar.RuleTree.{Bare}
 use Rattle.grammar.specs.RuleOf.{ruleOf}
 use Rattle.grammar.specs.WellFormed.{texts}
+use Rattle.grammar.specs.Steps.{steps, Read, ends}
+use Rattle.grammar.specs.Steps.State.{WantsName}
+use Rattle.grammar.specs.Steps.Read.{Whole, Cut}
 
 -- the tokens of a segment, without their places
 abbrev pub words : Text → List Text
@@ -23,3 +27,20 @@ pub record IsRule (x : Text) (r : Rule) : Type 0 where
 pub data AreRules : List Text → List Rule → Type 0 where
   none : AreRules [] []
   more : {x : Text} {r : Rule} {xs : List Text} {rs : List Rule} → IsRule x r → AreRules xs rs → AreRules (x ∷ xs) (r ∷ rs)
+
+-- ---- the same by the reader: of a segment that is a rule it gives that rule (`segment-rule`, proofs/Shuffle.antt)
+
+-- what a segment's tokens are read as: a rule's tree, or none
+abbrev pub readOf : Text → Read
+readOf x = ends (steps WantsName (words x))
+
+-- a pack that is read has no segment without a rule; for one without, any tree serves
+abbrev pub orAny : Read → RuleTree
+orAny (Whole r) = r
+orAny Cut = Bare []
+
+abbrev pub treeOf : Text → RuleTree
+treeOf x = orAny (readOf x)
+
+abbrev pub segmentRule : Text → Rule
+segmentRule x = ruleOf (treeOf x)

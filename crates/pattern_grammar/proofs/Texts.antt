@@ -20,7 +20,7 @@ use Rattle.pattern.specs.declared.PatternReading.the-variants.{Is}
 use Rattle.pattern.specs.Reading.{span, readPattern}
 use Rattle.pattern_grammar.specs.Grammar.{IsSub, IsPattern, one, two}
 use Rattle.pattern_grammar.specs.Meaning.{percentMark, marksIn, factorIn, ManyMarks, InEither, InFirst, OtherMarks, asked, ownIn, patternIn}
-use Rattle.pattern_grammar.specs.Verdict.{Plain, Past35, Verdict, too-long, not-utf8, reserved, not-a-pattern, many-places, large-step, many-marks, other-marks, read}
+use Rattle.pattern_grammar.specs.Verdict.{Plain, Past35, Verdict, too-long, not-utf8, reserved, not-a-pattern, many-places, large-step, many-marks, other-marks, read, Asks}
 use Rattle.pattern_grammar.specs.Texts.{Parts, Affixes, Multiplies}
 use Rattle.pattern_grammar.proofs.Groups.{groups-found}
 use Rattle.pattern_grammar.proofs.Subpatterns.{drop-two, sub-before, second-text}
@@ -43,13 +43,7 @@ read-plain s p e = found (verdict-found s) e
     found (other-marks w q m) k = not-read _ p k
     found (read w q m o) k = (q .past .plain, w)
 
--- In whatever way the text is a pattern, no row applies to it and it asks for what is read.
-pub record Asks {s : List ℕ} (w : IsPattern s) (p : Pattern) : Type 0 where
-  pub past : Past35 w
-  pub few : InEither ManyMarks w → ⊥
-  pub same : OtherMarks w → ⊥
-  pub is : patternIn w ≡ p
-
+-- in whatever way the text is a pattern
 pub read-asks : (s : List ℕ) (w : IsPattern s) (p : Pattern) → readPattern s ≡ Is p → Asks w p
 read-asks s w p e =
     refused-or-read s (read-plain s p e .0) w (λ row v. not-read row p (sym (verdict-given s v) ∙ e))

@@ -1,11 +1,13 @@
 -- Document 01's table, rows 30 to 36: which answer a pattern gets, in terms of the grammar. "Within one input the lowest number wins"; "34 and 35
 -- judge both subpatterns."
+use mathlib.Core.Path.{_≡_}
 use mathlib.Core.List.{List}
 use Prim.Native.Nat.{ℕ, _≤_, _<_}
 use lib.ListN.{length}
 use Rattle.utf8.specs.Scalar.{IsText}
 use Rattle.answer.specs.declared.PatternRow.the-variants.{PatternTooLong, PatternNotUtf8, ReservedByte, NotAPattern, TooManyPlaces, StepTooLarge, PercentMismatch}
 use Rattle.pattern.specs.Limits.{maxBytes}
+use Rattle.pattern.specs.declared.Pattern.{Pattern}
 use Rattle.pattern.specs.declared.PatternReading.{PatternReading}
 use Rattle.pattern.specs.declared.PatternReading.the-variants.{Is}
 use Rattle.pattern.specs.Reading.{refuse}
@@ -46,3 +48,10 @@ pub data Verdict (s : List ℕ) : PatternReading → Type 0 where
   other-marks : (w : IsPattern s) → Past35 w → OtherMarks w → Verdict s (refuse PercentMismatch)
   -- else the pattern is read
   read : (w : IsPattern s) → Past35 w → (InEither ManyMarks w → ⊥) → (OtherMarks w → ⊥) → Verdict s (Is (patternIn w))
+
+-- a pattern to which no row applies, and which asks for this
+pub record Asks {s : List ℕ} (w : IsPattern s) (p : Pattern) : Type 0 where
+  pub past : Past35 w
+  pub few : InEither ManyMarks w → ⊥
+  pub same : OtherMarks w → ⊥
+  pub is : patternIn w ≡ p

@@ -21,7 +21,7 @@ use Rattle.pattern_grammar.specs.Grammar.{isBare, IsAffix, done as no-more, apo
 use Rattle.pattern_grammar.proofs.Affixes.{bare-parts, single}
 use Rattle.layout.specs.Text.{rendered}
 use Rattle.print.specs.Text.{isLiteral, AffixText, done, apostrophe, quote, quoted, percent, plus, minus, permille-mark, literal}
-use Rattle.print.proofs.Cuts.{CleanAffix}
+use Rattle.print.specs.Clean.{CleanAffix}
 
 -- ---- tokens
 

@@ -30,6 +30,7 @@ use Rattle.pattern_grammar.proofs.Affixes.{stops, affix-found}
 use Rattle.pattern_grammar.proofs.Reserved.{plain-items}
 use Rattle.pattern_grammar.proofs.Subpatterns.{ends, read-sub}
 use Rattle.pattern_grammar.proofs.Texts.{read-plain, one-read, two-read}
+use Rattle.print.specs.Clean.{CleanAffix, CleanAffixes, PatternClean}
 
 -- ---- a text before a number part, a semicolon or the end
 
@@ -166,10 +167,6 @@ ends-stop (b ∷ r) e = tested (isPlace b) (λ k. rw k) (λ k. rw k e)
 
 -- ---- an affix without reserved items
 
-pub record CleanAffix (t : List ℕ) : Type 0 where
-  pub is-affix : IsAffix false t
-  pub unreserved : anyReserved (items t) ≡ false
-
 -- an affix that is read before what ends it
 cut-clean : (t r : List ℕ) → IsAffix false t → stops r ≡ true → (n : Bool) → anyReserved (itemsFrom false n 0 (t ++ r)) ≡ false
     → CleanAffix t × ((y : Bool) × (anyReserved (itemsFrom false y 0 r) ≡ false))
@@ -197,15 +194,6 @@ sub-clean a r w e n u =
     (first .0, last .0, last .1)
 
 -- ---- the affixes of a pattern that is read
-
--- of a prefix and a suffix given by their places
-pub record CleanAffixes (s : List ℕ) (before behind : Span) : Type 0 where
-  pub prefix : CleanAffix (textAt s before)
-  pub suffix : CleanAffix (textAt s behind)
-
-pub record PatternClean (s : List ℕ) (p : Pattern) : Type 0 where
-  pub positive : CleanAffixes s (p .prefix) (p .suffix)
-  pub negative : (before behind : Span) → p .negative ≡ Own before behind → CleanAffixes s before behind
 
 pattern-affixes : {s : List ℕ} → IsPattern s → anyReserved (items s) ≡ false → (p : Pattern) → readPattern s ≡ Is p → PatternClean s p
 pattern-affixes (one {s} w) u p e =

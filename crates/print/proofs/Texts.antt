@@ -35,7 +35,8 @@ use Rattle.layout.proofs.Shown.{digits-shown, shown-only}
 use Rattle.layout.proofs.Groups.{mark-sound, mark-complete, grouped-none}
 use Rattle.print.specs.Text.{AffixesText, Around, positive, minus, own, Grouped, none, plain, ended, pointBefore, PrintedText}
 use Rattle.print.proofs.Ready.{ready-within}
-use Rattle.print.proofs.Cuts.{CleanAffixes, PatternClean, pattern-clean}
+use Rattle.print.specs.Clean.{CleanAffixes, PatternClean}
+use Rattle.print.proofs.Cuts.{pattern-clean}
 use Rattle.print.proofs.Affixes.{affix-text}
 
 -- ---- groups

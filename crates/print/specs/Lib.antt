@@ -1,3 +1,4 @@
 pub mod Outcome
 pub mod Claims
 pub mod Text
+pub mod Clean
