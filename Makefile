@@ -1,7 +1,7 @@
 # demo: builds the bench program and runs it on document 01's whole case.
 # example: builds the library and runs the C program of c/example.c.
 # pack FILE=..: checks a language pack from a file, and shows what is wrong with it and where.
-# bench: times of the library and of ordinary Rust, side by side.
+# bench: times of the library and of ordinary Rust, side by side; SECTION=check (or read_number, select, print) for one section alone.
 # test: the layout of every file; then the gate, which proves every crate from nothing, tries the edits that must fail and runs the programs;
 #   then what links the library: the tries from C and the comparison with ordinary Rust. OKW_ROUNDS sets how long the comparison is.
 SHELL := /bin/bash
@@ -34,7 +34,7 @@ pack: $(SCREEN)
 	@$(CARGO) run $(RUST) -p packreport -- "$(FILE)"
 
 bench: $(SCREEN)
-	@$(CARGO) run $(RUST) -p compare --bin bench
+	@$(CARGO) run $(RUST) -p compare --bin bench -- $(SECTION)
 
 # What links the library: every entry from C with areas of every size, the C example, and the Rust side.
 linked: $(SCREEN)

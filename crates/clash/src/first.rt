@@ -6,16 +6,17 @@ ghost use Prim.Native.Nat.{ℕ, suc, _+_, _-_, _≤_, _<_};
 ghost use Rattle.number.specs.Limits.{maxExponent};
 ghost use Rattle.clash_laws.specs.Check.{against, firstPair};
 ghost use Rattle.clash_laws.specs.Fast.{fastClash};
+ghost use Rattle.clash_laws.specs.Floors.{Floored};
 ghost use Rattle.rules.specs.Stretch.{stretch, table};
 ghost use Rattle.clash_laws.specs.Read.{bareRule};
 ghost use Rattle.clash_laws.specs.Spots.{Proper, answered};
 use crate::Clash;
-use crate::clause;
 use crate::joined;
-use crate::limits;
 use answer::Pair;
 use answer::Witness;
 use clash_laws::Checked;
+use search::limits;
+use search::order;
 
 // The first of the rules behind the rule p, below n, that clashes with it; n where none does.
 pub fn later_clash<'a>(
@@ -27,10 +28,13 @@ pub fn later_clash<'a>(
     high: &'a [u32; 2048],
     relations: &'a [usize; 40],
     clauses: &'a [usize; 6],
+    whole: &'a [u64; 40],
+    part: &'a [u64; 40],
+    tail: &'a [u64; 40],
     p: usize,
     n: usize,
 ) -> Clash
-    requires { ⌜ (p < n) × (n ≤ 6) ⌝ }
+    requires { ⌜ (p < n) × (n ≤ 6) × Floored (table (now operand) (now modulus) (now negated) (now ranges) (now low) (now high)) (now relations) (now whole) (now part) (now tail) ⌝ }
     ensures { λ r. ⌜ ((rest : Checked) → against fastClash (p + 1) (p + 1 + 1) (bareRule (table (now (operand .entry)) (now (modulus .entry)) (now (negated .entry)) (now (ranges .entry)) (now (low .entry)) (now (high .entry))) (now (relations .entry)) (now (clauses .entry)) p) (stretch (bareRule (table (now (operand .entry)) (now (modulus .entry)) (now (negated .entry)) (now (ranges .entry)) (now (low .entry)) (now (high .entry))) (now (relations .entry)) (now (clauses .entry))) (p + 1) (n - (p + 1))) rest ≡ answered p n (r .at) (r .spot) rest) × (r .at < n → r .spot .e ≤ maxExponent) × Proper (r .spot) ⌝ }
 {
     let mut q = p + 1;
@@ -44,6 +48,9 @@ pub fn later_clash<'a>(
             high,
             relations,
             clauses,
+            whole,
+            part,
+            tail,
             p,
             q,
         );
@@ -52,7 +59,7 @@ pub fn later_clash<'a>(
         }
         q += 1;
     }
-    let none = clause::nowhere();
+    let none = order::nowhere();
     Clash { at: n, spot: none }
 }
 
@@ -78,9 +85,12 @@ pub fn first_pair<'a>(
     high: &'a [u32; 2048],
     relations: &'a [usize; 40],
     clauses: &'a [usize; 6],
+    whole: &'a [u64; 40],
+    part: &'a [u64; 40],
+    tail: &'a [u64; 40],
     n: usize,
 ) -> Checked
-    requires { ⌜ n ≤ 6 ⌝ }
+    requires { ⌜ (n ≤ 6) × Floored (table (now operand) (now modulus) (now negated) (now ranges) (now low) (now high)) (now relations) (now whole) (now part) (now tail) ⌝ }
     ensures { λ r. ⌜ r ≡ firstPair fastClash (0 + 1) (stretch (bareRule (table (now (operand .entry)) (now (modulus .entry)) (now (negated .entry)) (now (ranges .entry)) (now (low .entry)) (now (high .entry))) (now (relations .entry)) (now (clauses .entry))) 0 (n - 0)) ⌝ }
 {
     let mut k: usize = 0;
@@ -94,6 +104,9 @@ pub fn first_pair<'a>(
             high,
             relations,
             clauses,
+            whole,
+            part,
+            tail,
             k,
             n,
         );

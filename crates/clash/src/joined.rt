@@ -4,20 +4,25 @@ ghost use mathlib.Core.Bool.{Bool};
 ghost use mathlib.Core.List.{List, _++_};
 ghost use Prim.Native.Nat.{ℕ, suc, _+_, _-_, _≤_, _<_, min};
 ghost use lib.ListN.{getD};
+ghost use Rattle.clash_laws.specs.Floors.{Floored};
 ghost use Rattle.clash_laws.specs.Fast.{clauseRank, fastRank, withEach, bothOf};
 ghost use Rattle.rules.specs.Stretch.{startAt, table, clauseAt, clausesIn};
 ghost use Rattle.clash_laws.specs.Read.{ruleClauses};
 ghost use Rattle.clash_laws.specs.Spots.{spotRank, Proper};
-use crate::clause;
+use crate::floors;
 use answer::Witness;
+use clash_laws::Bounds;
 use clash_laws::Span;
+use decimal::Places;
+use search::limits;
+use search::order;
 
 const MAX_RELATIONS: usize = 320;
 
 const MAX_CLAUSES: usize = 40;
 
 // Where the relations of the clause k begin, and where they end.
-fn relations_start(ends: &[usize; 40], k: usize) -> usize
+pub fn relations_start(ends: &[usize; 40], k: usize) -> usize
     requires { ⌜ k < 40 ⌝ }
     ensures { λ r. ⌜ r ≡ startAt (now (ends .entry)) k ⌝ }
 {
@@ -27,7 +32,7 @@ fn relations_start(ends: &[usize; 40], k: usize) -> usize
     ends[k - 1]
 }
 
-fn relations_stop(ends: &[usize; 40], k: usize) -> usize
+pub fn relations_stop(ends: &[usize; 40], k: usize) -> usize
     requires { ⌜ k < 40 ⌝ }
     ensures { λ r. ⌜ r ≡ min (getD (now (ends .entry)) k 0) 320 ⌝ }
 {
@@ -58,7 +63,18 @@ fn clauses_stop(ends: &[usize; 6], p: usize) -> usize
     if end < MAX_CLAUSES { end } else { MAX_CLAUSES }
 }
 
-// The least number of the clauses k and l joined.
+// How many clauses the first n rules have.
+pub fn clauses_before(ends: &[usize; 6], n: usize) -> usize
+    requires { ⌜ n ≤ 6 ⌝ }
+    ensures { λ r. ⌜ r ≡ min (startAt (now (ends .entry)) n) 40 ⌝ }
+{
+    if n == 0 {
+        return 0;
+    }
+    clauses_stop(ends, n - 1)
+}
+
+// The least number of the clauses k and l joined, with any v.
 fn joined_spot<'a>(
     operand: &'a [u8; 320],
     modulus: &'a [u32; 320],
@@ -67,10 +83,13 @@ fn joined_spot<'a>(
     low: &'a [u32; 2048],
     high: &'a [u32; 2048],
     relations: &'a [usize; 40],
+    whole: &'a [u64; 40],
+    part: &'a [u64; 40],
+    tail: &'a [u64; 40],
     k: usize,
     l: usize,
 ) -> Witness
-    requires { ⌜ (k < 40) × (l < 40) ⌝ }
+    requires { ⌜ (k < 40) × (l < 40) × Floored (table (now operand) (now modulus) (now negated) (now ranges) (now low) (now high)) (now relations) (now whole) (now part) (now tail) ⌝ }
     ensures { λ r. ⌜ (spotRank r ≡ clauseRank (clauseAt (table (now (operand .entry)) (now (modulus .entry)) (now (negated .entry)) (now (ranges .entry)) (now (low .entry)) (now (high .entry))) (now (relations .entry)) k ++ clauseAt (table (now (operand .entry)) (now (modulus .entry)) (now (negated .entry)) (now (ranges .entry)) (now (low .entry)) (now (high .entry))) (now (relations .entry)) l)) × Proper r ⌝ }
 {
     let from = relations_start(relations, k);
@@ -83,7 +102,12 @@ fn joined_spot<'a>(
         start: start,
         stop: stop,
     };
-    clause::clause_spot(operand, modulus, negated, ranges, low, high, s)
+    let b = Bounds {
+        least: Places(0),
+        most: Places(limits::MAX_PLACES as u8),
+    };
+    let floors = floors::pair_floors(whole, part, tail, k, l);
+    search::least_admitted(operand, modulus, negated, ranges, low, high, s, b, floors)
 }
 
 // The earliest of `best` and the least numbers of the clause k with each of those from place `from` to before `to`.
@@ -95,12 +119,15 @@ fn with_each<'a>(
     low: &'a [u32; 2048],
     high: &'a [u32; 2048],
     relations: &'a [usize; 40],
+    whole: &'a [u64; 40],
+    part: &'a [u64; 40],
+    tail: &'a [u64; 40],
     k: usize,
     from: usize,
     to: usize,
     first: Witness,
 ) -> Witness
-    requires { ⌜ (k < 40) × (to ≤ 40) × Proper first ⌝ }
+    requires { ⌜ (k < 40) × (to ≤ 40) × Proper first × Floored (table (now operand) (now modulus) (now negated) (now ranges) (now low) (now high)) (now relations) (now whole) (now part) (now tail) ⌝ }
     ensures { λ r. ⌜ (spotRank r ≡ min (spotRank first) (fastRank (withEach (clauseAt (table (now (operand .entry)) (now (modulus .entry)) (now (negated .entry)) (now (ranges .entry)) (now (low .entry)) (now (high .entry))) (now (relations .entry)) k) (clausesIn (table (now (operand .entry)) (now (modulus .entry)) (now (negated .entry)) (now (ranges .entry)) (now (low .entry)) (now (high .entry))) (now (relations .entry)) from to)))) × Proper r ⌝ }
 {
     let mut best = first;
@@ -114,10 +141,13 @@ fn with_each<'a>(
             low,
             high,
             relations,
+            whole,
+            part,
+            tail,
             k,
             l,
         );
-        best = clause::earlier(best, one);
+        best = order::earlier(best, one);
         l += 1;
     }
     best
@@ -132,15 +162,18 @@ fn both_spot<'a>(
     low: &'a [u32; 2048],
     high: &'a [u32; 2048],
     relations: &'a [usize; 40],
+    whole: &'a [u64; 40],
+    part: &'a [u64; 40],
+    tail: &'a [u64; 40],
     from: usize,
     to: usize,
     start: usize,
     stop: usize,
 ) -> Witness
-    requires { ⌜ (to ≤ 40) × (stop ≤ 40) ⌝ }
+    requires { ⌜ (to ≤ 40) × (stop ≤ 40) × Floored (table (now operand) (now modulus) (now negated) (now ranges) (now low) (now high)) (now relations) (now whole) (now part) (now tail) ⌝ }
     ensures { λ r. ⌜ (spotRank r ≡ fastRank (bothOf (clausesIn (table (now (operand .entry)) (now (modulus .entry)) (now (negated .entry)) (now (ranges .entry)) (now (low .entry)) (now (high .entry))) (now (relations .entry)) from to) (clausesIn (table (now (operand .entry)) (now (modulus .entry)) (now (negated .entry)) (now (ranges .entry)) (now (low .entry)) (now (high .entry))) (now (relations .entry)) start stop))) × Proper r ⌝ }
 {
-    let mut best = clause::nowhere();
+    let mut best = order::nowhere();
     let mut k = from;
     while k < to {
         best = with_each(
@@ -151,6 +184,9 @@ fn both_spot<'a>(
             low,
             high,
             relations,
+            whole,
+            part,
+            tail,
             k,
             start,
             stop,
@@ -171,10 +207,13 @@ pub fn pair_spot<'a>(
     high: &'a [u32; 2048],
     relations: &'a [usize; 40],
     clauses: &'a [usize; 6],
+    whole: &'a [u64; 40],
+    part: &'a [u64; 40],
+    tail: &'a [u64; 40],
     p: usize,
     q: usize,
 ) -> Witness
-    requires { ⌜ (p < 6) × (q < 6) ⌝ }
+    requires { ⌜ (p < 6) × (q < 6) × Floored (table (now operand) (now modulus) (now negated) (now ranges) (now low) (now high)) (now relations) (now whole) (now part) (now tail) ⌝ }
     ensures { λ r. ⌜ (spotRank r ≡ fastRank (bothOf (ruleClauses (table (now (operand .entry)) (now (modulus .entry)) (now (negated .entry)) (now (ranges .entry)) (now (low .entry)) (now (high .entry))) (now (relations .entry)) (now (clauses .entry)) p) (ruleClauses (table (now (operand .entry)) (now (modulus .entry)) (now (negated .entry)) (now (ranges .entry)) (now (low .entry)) (now (high .entry))) (now (relations .entry)) (now (clauses .entry)) q))) × Proper r ⌝ }
 {
     let from = clauses_start(clauses, p);
@@ -189,6 +228,9 @@ pub fn pair_spot<'a>(
         low,
         high,
         relations,
+        whole,
+        part,
+        tail,
         from,
         to,
         start,

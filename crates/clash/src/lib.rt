@@ -1,21 +1,17 @@
 // The pack check: the first two rules that one admitted number meets, with the least such number.
 //
-// Crate clash_laws has the definition, the search that is run and the proof that they agree; crate
-// leaps searches for one number. Below the entry the pack's arrays are lent one by one.
-mod clause;
+// Crate clash_laws has the definition and its laws; crate search finds the least number of two clauses
+// joined. Below the entry the pack's arrays are lent one by one, with the floors of its long clauses.
 mod first;
-mod fraction;
+mod floors;
 mod joined;
-mod limits;
-mod settle;
 
 ghost use mathlib.Core.Path.{_≡_};
 ghost use Prim.Native.Nat.{min};
-ghost use Rattle.rules.specs.Held.{heldRules};
+ghost use Rattle.rules.specs.Held.{heldRules, lent};
 ghost use Rattle.clash_laws.specs.Check.{checkOf};
 use answer::Witness;
 use clash_laws::Checked;
-use rules::Pack;
 
 // The first rule behind a rule that clashes with it, and the number; `at` is past the rules where none
 // does.
@@ -31,20 +27,75 @@ fn rule_count(count: usize) -> usize
     if count < 6 { count } else { 6 }
 }
 
-// The check of a parsed pack.
-pub fn check(p: Pack) -> Checked
-    ensures { λ r. ⌜ r ≡ checkOf (heldRules p) ⌝ }
+// Lent as slices the arrays have the lengths that they are declared with; there is nothing else to do.
+fn sized<'a>(
+    operand: &'a [u8],
+    modulus: &'a [u32],
+    negated: &'a [bool],
+    ranges: &'a [usize],
+    low: &'a [u32],
+    high: &'a [u32],
+    relations: &'a [usize],
+    keyword: &'a [u8],
+    clauses: &'a [usize],
+) {}
+
+// The check of the first `count` rules in a parsed pack's arrays.
+pub fn check<'a>(
+    operand: &'a [u8; 320],
+    modulus: &'a [u32; 320],
+    negated: &'a [bool; 320],
+    ranges: &'a [usize; 320],
+    low: &'a [u32; 2048],
+    high: &'a [u32; 2048],
+    relations: &'a [usize; 40],
+    keyword: &'a [u8; 6],
+    clauses: &'a [usize; 6],
+    count: usize,
+) -> Checked
+    ensures { λ r. ⌜ r ≡ checkOf (heldRules (lent (now (low .entry)) (now (high .entry)) (now (operand .entry)) (now (modulus .entry)) (now (negated .entry)) (now (ranges .entry)) (now (relations .entry)) (now (keyword .entry)) (now (clauses .entry)) count)) ⌝ }
 {
-    let n = rule_count(p.count);
+    sized(
+        operand,
+        modulus,
+        negated,
+        ranges,
+        low,
+        high,
+        relations,
+        keyword,
+        clauses,
+    );
+    let n = rule_count(count);
+    let end = joined::clauses_before(clauses, n);
+    let mut whole: [u64; 40] = [0; 40];
+    let mut part: [u64; 40] = [0; 40];
+    let mut tail: [u64; 40] = [0; 40];
+    floors::fill(
+        operand,
+        modulus,
+        negated,
+        ranges,
+        low,
+        high,
+        relations,
+        &mut whole,
+        &mut part,
+        &mut tail,
+        end,
+    );
     first::first_pair(
-        &p.operand,
-        &p.modulus,
-        &p.negated,
-        &p.ranges,
-        &p.low,
-        &p.high,
-        &p.relations,
-        &p.clauses,
+        operand,
+        modulus,
+        negated,
+        ranges,
+        low,
+        high,
+        relations,
+        clauses,
+        &whole,
+        &part,
+        &tail,
         n,
     )
 }

@@ -1,121 +1,45 @@
--- What the code of the check works out: the pairs in turn.
-use mathlib.Core.Path.{_≡_, sym, ap, subst, _∙_}
-use mathlib.Core.Bool.{Bool}
+-- What the code of the check works out: the pairs in turn, their ranks by the search that is run.
+use mathlib.Core.Path.{_≡_}
 use mathlib.Core.List.{List}
-use Prim.Native.Nat.{ℕ, suc, _+_, _-_, _*_, _/_, _%_, _^_, _≤_, _<_}
-use native.Mathlib.Omega.{arith}
-use native.Mathlib.Nat.{mul-le-mul-right}
-use native.Mathlib.Numerals.{add-one}
-use lib.Arith.{digits-lt, digits-div, digits-mod}
-use borrow.Author.Tests.{lt-ltb, le-ltb}
-use Rattle.decimal.specs.Choice.{if_then_else_}
+use Prim.Native.Nat.{ℕ, _+_, _≤_, _<_}
 use Rattle.answer.specs.declared.Witness.{Witness}
-use Rattle.number.specs.Limits.{maxExponent, maxDigits, maxPlaces}
-use Rattle.rules.specs.Syntax.{Rule}
-use Rattle.clash_laws.specs.Check.{block, ranks, ranked, named, against, firstPair}
+use Rattle.number.specs.Limits.{maxExponent}
 use Rattle.clash_laws.specs.Fast.{fastRank, bothOf, fastClash}
-use Rattle.rules.specs.Stretch.{stretch, Table}
-use Rattle.clash_laws.specs.Read.{ruleClauses, bareRule}
+use Rattle.rules.specs.Stretch.{Table}
+use Rattle.clash_laws.specs.Read.{ruleClauses}
 use Rattle.clash_laws.specs.Spots.{spotRank, Proper, answered}
 use Rattle.clash_laws.specs.declared.Checked.{Checked}
 use Rattle.clash_laws.specs.declared.Checked.the-variants.{Passes, Clashes}
-use Rattle.rules.proofs.Stretches.{stretch-cons, stretch-nil}
-
--- ---- what is found
-
-low-lt : (s : Witness) → Proper s → (s .v .0 * 10 ^ maxDigits + s .i) * 10 ^ maxPlaces + s .f .0 < block
-low-lt s p = digits-lt (digits-lt (p .places) (p .whole)) (p .fraction)
-
-found-lt : (s : Witness) → Proper s → s .e ≤ maxExponent → spotRank s < ranks
-unfolding spotRank
-found-lt s p h = digits-lt {m = suc maxExponent} (let g : s .e < suc maxExponent = omega arith in g) (low-lt s p)
-
-none-ge : (s : Witness) → maxExponent < s .e → ranks ≤ spotRank s
-unfolding spotRank
-none-ge s h = let g : suc maxExponent * block ≤ s .e * block = mul-le-mul-right block h in omega arith
-
--- the number of a spot's rank is the spot's
-ranked-is : (s : Witness) → Proper s → ranked (spotRank s) ≡ s
-unfolding spotRank
-ranked-is s p = rw (e-is, v-is, i-is, f-is)
-  where
-    k : ℕ
-    k = s .e * block + ((s .v .0 * 10 ^ maxDigits + s .i) * 10 ^ maxPlaces + s .f .0)
-
-    whole : s .e * block + ((s .v .0 * 10 ^ maxDigits + s .i) * 10 ^ maxPlaces + s .f .0) ≡ ((s .e * suc maxPlaces + s .v .0) * 10 ^ maxDigits + s .i) * 10 ^ maxPlaces + s .f .0
-    whole = omega arith
-
-    f-is : (s .e * block + ((s .v .0 * 10 ^ maxDigits + s .i) * 10 ^ maxPlaces + s .f .0)) % 10 ^ maxPlaces ≡ s .f .0
-    f-is = ap (λ (x : ℕ). x % 10 ^ maxPlaces) whole ∙ digits-mod ((s .e * suc maxPlaces + s .v .0) * 10 ^ maxDigits + s .i) (p .fraction)
-
-    one : (s .e * block + ((s .v .0 * 10 ^ maxDigits + s .i) * 10 ^ maxPlaces + s .f .0)) / 10 ^ maxPlaces ≡ (s .e * suc maxPlaces + s .v .0) * 10 ^ maxDigits + s .i
-    one = ap (λ (x : ℕ). x / 10 ^ maxPlaces) whole ∙ digits-div ((s .e * suc maxPlaces + s .v .0) * 10 ^ maxDigits + s .i) (p .fraction)
-
-    i-is : (s .e * block + ((s .v .0 * 10 ^ maxDigits + s .i) * 10 ^ maxPlaces + s .f .0)) / 10 ^ maxPlaces % 10 ^ maxDigits ≡ s .i
-    i-is = ap (λ (x : ℕ). x % 10 ^ maxDigits) one ∙ digits-mod (s .e * suc maxPlaces + s .v .0) (p .whole)
-
-    two : (s .e * block + ((s .v .0 * 10 ^ maxDigits + s .i) * 10 ^ maxPlaces + s .f .0)) / 10 ^ maxPlaces / 10 ^ maxDigits ≡ s .e * suc maxPlaces + s .v .0
-    two = ap (λ (x : ℕ). x / 10 ^ maxDigits) one ∙ digits-div (s .e * suc maxPlaces + s .v .0) (p .whole)
-
-    v-is : (s .e * block + ((s .v .0 * 10 ^ maxDigits + s .i) * 10 ^ maxPlaces + s .f .0)) / 10 ^ maxPlaces / 10 ^ maxDigits % suc maxPlaces ≡ s .v .0
-    v-is = ap (λ (x : ℕ). x % suc maxPlaces) two ∙ digits-mod (s .e) (p .places)
-
-    e-is : (s .e * block + ((s .v .0 * 10 ^ maxDigits + s .i) * 10 ^ maxPlaces + s .f .0)) / 10 ^ maxPlaces / 10 ^ maxDigits / suc maxPlaces ≡ s .e
-    e-is = ap (λ (x : ℕ). x / suc maxPlaces) two ∙ digits-div (s .e) (p .places)
+use Rattle.clash_laws.proofs.Turns as turns
 
 -- ---- one rule against those behind it
 
 module _ (T : Table) (R C : List ℕ) (p n : ℕ) where
-  abbrev rule : ℕ → Rule
-  rule = bareRule T R C
-
   -- the rules from q on
   abbrev pub From : ℕ → Checked → Checked
-  From q rest = against fastClash (p + 1) (q + 1) (bareRule T R C p) (stretch (bareRule T R C) q (n - q)) rest
-
-  step : (q : ℕ) (rest : Checked) → q < n → From q rest ≡ named (p + 1) (q + 1) (fastRank (bothOf (ruleClauses T R C p) (ruleClauses T R C q))) (From (q + 1) rest)
-  unfolding against
-  step q rest h = rw (stretch-cons (bareRule T R C) q n h, add-one (q + 1))
+  From = turns.From fastClash T R C p n
 
   pub behind-more : (q : ℕ) (s : Witness) → q < n → spotRank s ≡ fastRank (bothOf (ruleClauses T R C p) (ruleClauses T R C q)) → maxExponent < s .e → (rest : Checked) → From q rest ≡ From (q + 1) rest
-  behind-more q s h e g rest =
-      step q rest h
-      ∙ ap (λ (b : Bool). if b then Clashes (record { first = p + 1; second = q + 1 }) (ranked (fastRank (bothOf (ruleClauses T R C p) (ruleClauses T R C q)))) else From (q + 1) rest)
-      (le-ltb (fastRank (bothOf (ruleClauses T R C p) (ruleClauses T R C q))) ranks (subst (λ (x : ℕ). ranks ≤ x) e (none-ge s g)))
+  behind-more = turns.behind-more fastClash T R C p n
 
   pub behind-found : (q : ℕ) (s : Witness) → q < n → spotRank s ≡ fastRank (bothOf (ruleClauses T R C p) (ruleClauses T R C q)) → Proper s → s .e ≤ maxExponent → (rest : Checked) → From q rest ≡ answered p n q s rest
-  behind-found q s h e pr g rest =
-      step q rest h
-      ∙ ap (λ (b : Bool). if b then Clashes (record { first = p + 1; second = q + 1 }) (ranked (fastRank (bothOf (ruleClauses T R C p) (ruleClauses T R C q)))) else From (q + 1) rest)
-      (lt-ltb (fastRank (bothOf (ruleClauses T R C p) (ruleClauses T R C q))) ranks (subst (λ (x : ℕ). x < ranks) e (found-lt s pr g)))
-      ∙ ap (λ (x : Witness). Clashes (record { first = p + 1; second = q + 1 }) x) (ap ranked (sym e) ∙ ranked-is s pr)
-      ∙ sym (ap (λ (b : Bool). if b then Clashes (record { first = p + 1; second = q + 1 }) s else rest) (lt-ltb q n h))
+  behind-found = turns.behind-found fastClash T R C p n
 
   pub behind-none : (q : ℕ) (s : Witness) → n ≤ q → (rest : Checked) → From q rest ≡ answered p n n s rest
-  unfolding against
-  behind-none q s h rest = rw (stretch-nil (bareRule T R C) q n h) (sym (ap (λ (b : Bool). if b then Clashes (record { first = p + 1; second = n + 1 }) s else rest) (le-ltb n n (omega arith))))
+  behind-none = turns.behind-none fastClash T R C p n
 
 -- ---- all rules
 
 module _ (T : Table) (R C : List ℕ) (n : ℕ) where
   abbrev pub FromRule : ℕ → Checked
-  FromRule k = firstPair fastClash (k + 1) (stretch (bareRule T R C) k (n - k))
-
-  rules-step : (k : ℕ) → k < n → FromRule k ≡ From T R C k n (k + 1) (FromRule (k + 1))
-  unfolding firstPair
-  rules-step k h = rw (stretch-cons (bareRule T R C) k n h, add-one (k + 1))
+  FromRule = turns.FromRule fastClash T R C n
 
   pub rules-found : (k : ℕ) (q : ℕ) (s : Witness) → k < n → ((rest : Checked) → From T R C k n (k + 1) rest ≡ answered k n q s rest) → q < n
       → FromRule k ≡ Clashes (record { first = k + 1; second = q + 1 }) s
-  rules-found k q s h e l =
-      rules-step k h ∙ e (FromRule (k + 1))
-      ∙ ap (λ (b : Bool). if b then Clashes (record { first = k + 1; second = q + 1 }) s else FromRule (k + 1)) (lt-ltb q n l)
+  rules-found = turns.rules-found fastClash T R C n
 
   pub rules-more : (k : ℕ) (q : ℕ) (s : Witness) → k < n → ((rest : Checked) → From T R C k n (k + 1) rest ≡ answered k n q s rest) → n ≤ q → FromRule k ≡ FromRule (k + 1)
-  rules-more k q s h e l =
-      rules-step k h ∙ e (FromRule (k + 1))
-      ∙ ap (λ (b : Bool). if b then Clashes (record { first = k + 1; second = q + 1 }) s else FromRule (k + 1)) (le-ltb q n l)
+  rules-more = turns.rules-more fastClash T R C n
 
   pub rules-end : (k : ℕ) → n ≤ k → FromRule k ≡ Passes
-  unfolding firstPair
-  rules-end k h = rw (stretch-nil (bareRule T R C) k n h)
+  rules-end = turns.rules-end fastClash T R C n

@@ -21,7 +21,7 @@ use Rattle.clash_laws.specs.Check.{numberAt, rank, ranked, admits, ranks
 use Rattle.clash_laws.specs.Claims.{IsAdmitted, MeetsBoth, Apart, Before, ruleAt, AllApart, Claims}
 use Rattle.clash_laws.specs.declared.Checked.{Checked}
 use Rattle.clash_laws.specs.declared.Checked.the-variants.{Passes, Clashes}
-use Rattle.clash_laws.proofs.Leaping.{both-held}
+use Rattle.clash_laws.proofs.Searched.{both-held}
 use Rattle.clash_laws.proofs.Ranks.{admitted-of, admits-of, ranked-rank, rank-lt, rank-one, rank-before}
 
 -- ---- any test: its least admitted number

@@ -22,7 +22,7 @@ use Rattle.least.proofs.Seeking.{split, and-false-left, and-false-right, and-tr
 use Rattle.clash_laws.specs.Check.{lowest, admits, numberAt, ranked, block, ranks, found, leastRank}
 use Rattle.clash_laws.specs.Fast.{queryI, queryT, passes, ends, passesAll, settledE, settledF, exponentOf, fractionCode, integerOf, kindRank, clauseRank, fastRank}
 use Rattle.clash_laws.proofs.Parts.{parts, none-zero, zero-none}
-use Rattle.clash_laws.proofs.Leaping.{search-least}
+use Rattle.clash_laws.proofs.Searched.{search-least}
 use Rattle.clash_laws.proofs.Split.{clause-split}
 use Rattle.clash_laws.proofs.Fractions.{fraction, vOf, fOf, kindFits, kind-least, kind-is, kind-long}
 use Rattle.clash_laws.proofs.Digits.{vAt, iAt, fAt, codeAt, f-lt, code-lt, inOrder, order-least}
@@ -241,7 +241,7 @@ fast-least (c ∷ cs) = least-same (λ j. spread (admits (ranked j)) (clauseHold
     spread true b d = refl
     spread false b d = refl
 
--- The least admitted number that meets a condition is what the search by leaps finds.
+-- The least admitted number that meets a condition is what the search that is run finds.
 pub fast-is : (cs : List (List Relation)) → leastRank (conditionHolds cs) ≡ fastRank cs
 unfolding leastRank
 fast-is cs = least-one (seek-least (found (conditionHolds cs)) ranks 0) (fast-least cs)

@@ -20,7 +20,7 @@ use Rattle.least.specs.Seek.{Least, seek}
 use Rattle.least.proofs.Seeking.{split, and-false-left, and-false-right, and-true, or-false, least-none, least-or, seek-least}
 use Rattle.clash_laws.specs.Fast.{queryT, factor, test, passes, ends, passesAll, settledF, fractions, wholeCode, tailOf, tailPlaces, tailCode, partCode, fractionCode}
 use Rattle.clash_laws.proofs.Parts.{Parts, parts, parts-w, parts-t}
-use Rattle.clash_laws.proofs.Leaping.{both-held, search-least}
+use Rattle.clash_laws.proofs.Searched.{both-held, search-least}
 
 -- what v and w settle, and what is asked of t
 unfoldable pub fraction : ℕ → ℕ → List Relation → ℕ → Bool

@@ -14,25 +14,34 @@ use Rattle.clash_laws.specs.Read.{bareRule}
 use Rattle.clash_laws.specs.declared.Checked.{Checked}
 use Rattle.clash_laws.proofs.Joining.{check-fast}
 
--- ---- keywords do not matter to the search
+-- ---- keywords do not matter to a search that asks the clauses alone
 
-module _ (g h : ℕ → Rule) (same : (j : ℕ) → g j .clauses ≡ h j .clauses) where
-  clash-same : (i j : ℕ) → fastClash (g i) (g j) ≡ fastClash (h i) (h j)
-  clash-same i j = ap₂ (λ (a b : List (List Relation)). fastRank (bothOf a b)) (same i) (same j)
+abbrev Clauses : Type 0
+Clauses = List (List Relation)
 
-  against-same : (p q i k n : ℕ) (r s : Checked) → r ≡ s → against fastClash p q (g i) (stretch g k n) r ≡ against fastClash p q (h i) (stretch h k n) s
+-- the rank of a pair, by its clauses
+abbrev pub byClauses : (Clauses → Clauses → ℕ) → Rule → Rule → ℕ
+byClauses G a b = G (a .clauses) (b .clauses)
+
+module _ (G : Clauses → Clauses → ℕ) (g h : ℕ → Rule) (same : (j : ℕ) → g j .clauses ≡ h j .clauses) where
+  against-same : (p q i k n : ℕ) (r s : Checked) → r ≡ s → against (byClauses G) p q (g i) (stretch g k n) r ≡ against (byClauses G) p q (h i) (stretch h k n) s
   unfolding against stretch
   against-same p q i k zero r s e = e
-  against-same p q i k (suc n) r s e = ap₂ (named p q) (clash-same i k) (against-same p (suc q) i (suc k) n r s e)
+  against-same p q i k (suc n) r s e = ap₂ (named p q) (ap₂ G (same i) (same k)) (against-same p (suc q) i (suc k) n r s e)
 
-  pub first-same : (p k n : ℕ) → firstPair fastClash p (stretch g k n) ≡ firstPair fastClash p (stretch h k n)
+  first-same : (p k n : ℕ) → firstPair (byClauses G) p (stretch g k n) ≡ firstPair (byClauses G) p (stretch h k n)
   unfolding firstPair stretch
   first-same p k zero = refl
   first-same p k (suc n) = against-same p (suc p) k (suc k) n _ _ (first-same (suc p) (suc k) n)
 
--- The check of a pack is that of its rules by places.
+-- The pairs of a pack's rules are those of its rules by places.
+pub held-by : (G : Clauses → Clauses → ℕ) (p : Pack) (n : ℕ) (r : Checked) → Sized p → n ≡ min (p .count) 6
+    → r ≡ firstPair (byClauses G) (0 + 1) (stretch (bareRule (tableOf p) (p .relations) (p .clauses)) 0 (n - 0)) → r ≡ firstPair (byClauses G) 1 (heldRules p)
+held-by G p n r f e h =
+    h ∙ ap (λ (m : ℕ). firstPair (byClauses G) 1 (stretch (bareRule (tableOf p) (p .relations) (p .clauses)) 0 m)) (sub-zero n ∙ e)
+    ∙ first-same G (bareRule (tableOf p) (p .relations) (p .clauses)) (ruleAt p) (λ j. refl) 1 0 (min (p .count) 6)
+    ∙ sym (ap (firstPair (byClauses G) 1) (held-rules p f))
+
+-- The check of a pack by the search that is run.
 pub held-is : (p : Pack) (n : ℕ) (r : Checked) → Sized p → n ≡ min (p .count) 6 → r ≡ firstPair fastClash (0 + 1) (stretch (bareRule (tableOf p) (p .relations) (p .clauses)) 0 (n - 0)) → r ≡ checkOf (heldRules p)
-held-is p n r f e h =
-    h ∙ ap (λ (m : ℕ). firstPair fastClash 1 (stretch (bareRule (tableOf p) (p .relations) (p .clauses)) 0 m)) (sub-zero n ∙ e)
-    ∙ first-same (bareRule (tableOf p) (p .relations) (p .clauses)) (ruleAt p) (λ j. refl) 1 0 (min (p .count) 6)
-    ∙ sym (check-fast (heldRules p) ∙ ap (firstPair fastClash 1) (held-rules p f))
+held-is p n r f e h = held-by (λ (a b : Clauses). fastRank (bothOf a b)) p n r f e h ∙ sym (check-fast (heldRules p))

@@ -1,4 +1,4 @@
--- A number meets both of two rules exactly where it meets the one condition that joins their clauses; so the check is that of the search by leaps.
+-- A number meets both of two rules exactly where it meets the one condition that joins their clauses; so the check is that of the search that is run.
 use mathlib.Core.Path.{_≡_, refl, sym, ap, ap₂, _∙_}
 use mathlib.Core.Bool.{Bool, true, false}
 use mathlib.Core.List.{List, [], _∷_, _++_}
@@ -83,6 +83,6 @@ module _ (L M : Rule → Rule → ℕ) (same : (a b : Rule) → L a b ≡ M a b)
   pair-same p [] = refl
   pair-same p (a ∷ bs) = against-same p (suc p) a bs _ _ (pair-same (suc p) bs)
 
--- The check is that of the search by leaps.
+-- The check is that of the search that is run.
 pub check-fast : (rs : List Rule) → checkOf rs ≡ fastCheck rs
 check-fast rs = pair-same clashOf fastClash clash-fast 1 rs

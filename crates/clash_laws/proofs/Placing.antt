@@ -5,12 +5,12 @@ use mathlib.Core.List.{List, [], _∷_}
 use mathlib.Core.Logic.{_⊎_, ⊎-elim}
 use Prim.Native.Nat.{ℕ, zero, suc, _+_, _-_, _*_, _%_, _^_, _≤_, _<_, min}
 use native.Mathlib.Omega.{arith}
-use native.Mathlib.Nat.{pow-succ', mul-le-mul-right}
+use native.Mathlib.Nat.{mul-le-mul-right}
 use native.Mathlib.Numerals.{add-one}
 use lib.Pow.{pow-add}
 use lib.Dec.{ltb, leb, eqb}
 use borrow.Author.Tests.{le-leb, lt-leb, ltb-true}
-use Rattle.decimal.specs.Choice.{if_then_else_, both}
+use Rattle.decimal.specs.Choice.{if_then_else_, both, either}
 use Rattle.decimal.proofs.Choices.{not-both}
 use Rattle.decimal.proofs.Values.{power-mono}
 use Rattle.number.specs.Limits.{maxExponent, maxPlaces}
@@ -18,16 +18,8 @@ use Rattle.rules.specs.Syntax.{Relation}
 use Rattle.plural.specs.Meaning.{all}
 use Rattle.least.specs.Seek.{Least, seek}
 use Rattle.least.proofs.Seeking.{split, and-true, least-one, seek-least}
-use Rattle.clash_laws.specs.Fast.{Query, factor, test, ends, passesAll, queryT, passes, search, settledE, settledF, exponentOf, fractions, wholeCode, tailOf, tailPlaces, tailCode, partCode, fractionCode}
-use Rattle.clash_laws.proofs.Leaping.{both-held, search-least}
-
--- ---- powers
-
-pub power-more : (p i : ℕ) → p ≡ 10 ^ i → 10 * p ≡ 10 ^ (i + 1)
-power-more p i e = rw (add-one i, pow-succ' 10 i, e)
-
-pub power-room : (p i : ℕ) → p ≡ 10 ^ i → i < 18 → 10 * p ≤ 10 ^ 18
-power-room p i e h = subst (λ (x : ℕ). x ≤ 10 ^ 18) (sym (power-more p i e)) (power-mono {j = 18} (omega arith))
+use Rattle.clash_laws.specs.Fast.{factor, test, ends, passesAll, alone, aloneOf, asksOf, queryT, passes, search, settledE, settledF, exponentOf, fractions, wholeCode, tailOf, tailPlaces, tailCode, partCode, fractionCode}
+use Rattle.clash_laws.proofs.Searched.{both-held, search-least}
 
 -- ---- a test in turn
 
@@ -54,6 +46,14 @@ both-no x y a e f = sym (ap (λ (z : Bool). both z y) (sym e ∙ f))
 
 pub both-yes : (x y a : Bool) {b : Bool} → a ≡ x → a ≡ true → b ≡ y → b ≡ both x y
 both-yes x y a e f g = g ∙ sym (ap (λ (z : Bool). both z y) (sym e ∙ f))
+
+-- whether any passes
+module _ (P : ℕ → Bool) (n lo top : ℕ) (l : lo + n ≡ suc top) where
+  pub some-at : (e : ℕ) (b : Bool) → Before P n lo e → e ≤ top → b ≡ P e → b ≡ true → true ≡ leb (seek P n lo) top
+  some-at e b h k g f = sym (le-leb (seek P n lo) top (subst (λ (x : ℕ). x ≤ top) (seek-at P n lo e b h (omega arith) g f) k))
+
+  pub some-none : (e : ℕ) → Before P n lo e → e ≡ suc top → false ≡ leb (seek P n lo) top
+  some-none e h k = sym (lt-leb (seek P n lo) top (subst (λ (x : ℕ). top < x) (seek-none P n lo e h (omega arith)) (omega arith)))
 
 -- ---- f is 0
 
@@ -122,9 +122,6 @@ module _ (k : ℕ) (hk : k < maxPlaces) (c : List Relation) where
 
 -- ---- what is asked of t alone
 
-abbrev pub alone : Query
-alone = record { n = 0; i = 0; f = 0; t = 1; odd = true }
-
 one-alone : (k x : ℕ) (r : Relation) → passes (queryT k) r x ≡ true → passes alone r x ≡ true
 unfolding passes factor
 one-alone k x r = go (eqb (r .operand) 110) (eqb (r .operand) 105) (eqb (r .operand) 102) (eqb (r .operand) 116)
@@ -146,15 +143,15 @@ each-alone k x (r ∷ rs) h =
     let b = both-held (passes (queryT k) r x) (all (λ (r : Relation). passes (queryT k) r x) rs) h in
     and-true (one-alone k x r (b .0)) (each-alone k x rs (b .1))
 
-all-alone : (k x : ℕ) (c : List Relation) → passesAll (queryT k) c x ≡ true → passesAll alone c x ≡ true
+pub all-alone : (k x : ℕ) (c : List Relation) → passesAll (queryT k) c x ≡ true → passesAll alone c x ≡ true
 unfolding passesAll ends
 all-alone k x c h =
     let b = both-held (not (eqb (x % 10) 0)) (all (λ (r : Relation). passes (queryT k) r x) c) h in
     and-true (b .0) (each-alone k x c (b .1))
 
-module _ (c : List Relation) (t : ℕ) (e : t ≡ search alone c 0 (10 ^ maxPlaces)) (h : 10 ^ maxPlaces ≤ t) (k : ℕ) (hk : k < maxPlaces) where
+module _ (c : List Relation) (t : ℕ) (e : t ≡ aloneOf c) (h : 10 ^ maxPlaces ≤ t) (k : ℕ) (hk : k < maxPlaces) where
   tail-far : 10 ^ (maxPlaces - k) ≤ tailOf k c
-  unfolding tailOf
+  unfolding tailOf aloneOf
   tail-far =
       let l = search-least alone c 0 (10 ^ maxPlaces) (omega arith) in
       let g = search-least (queryT k) c 0 (10 ^ (maxPlaces - k)) (omega arith) in
@@ -173,7 +170,49 @@ module _ (c : List Relation) (t : ℕ) (e : t ≡ search alone c 0 (10 ^ maxPlac
       absurd (omega (arith, ltb-true (tailOf k c) (10 ^ (tailPlaces k (tailOf k c) c - k)) (d .1), tail-far)))
       (split maxPlaces (tailPlaces k (tailOf k c) c))))
 
+-- ---- where no relation asks f
+
+neither : (a b : Bool) → either a b ≡ false → (a ≡ false) × (b ≡ false)
+neither true b h = not-both {b = true} refl h
+neither false b h = (refl, h)
+
+one-same : (k x : ℕ) (r : Relation) → eqb (r .operand) 102 ≡ false → passes (queryT k) r x ≡ passes alone r x
+unfolding passes factor
+one-same k x r n = rw n
+
+each-same : (k x : ℕ) (c : List Relation) → asksOf 102 c ≡ false → all (λ (r : Relation). passes (queryT k) r x) c ≡ all (λ (r : Relation). passes alone r x) c
+each-same k x [] h = refl
+each-same k x (r ∷ rs) h =
+    let n = neither (eqb (r .operand) 102) (asksOf 102 rs) h in
+    ap₂ both (one-same k x r (n .0)) (each-same k x rs (n .1))
+
+all-same : (k x : ℕ) (c : List Relation) → asksOf 102 c ≡ false → passesAll (queryT k) c x ≡ passesAll alone c x
+unfolding passesAll ends
+all-same k x c h = ap (both (not (eqb (x % 10) 0))) (each-same k x c h)
+
+-- the t by what is asked of t alone is that before k zeros, where it has room
+pub tail-once : (c : List Relation) (k t p r : ℕ) (a : Bool) → k < maxPlaces → t ≡ aloneOf c → a ≡ asksOf 102 c → a ≡ false → p ≡ 10 ^ (maxPlaces - k) → r ≡ min t p → r ≡ tailOf k c
+unfolding aloneOf tailOf
+tail-once c k t p r a hk e g f q m =
+    let l = search-least alone c 0 (10 ^ maxPlaces) (omega arith) in
+    let b : 10 ^ (maxPlaces - k) ≤ 10 ^ maxPlaces = power-mono {j = maxPlaces} (omega arith) in
+    let n = sym g ∙ f in
+    let T = search alone c 0 (10 ^ maxPlaces) in
+    m ∙ ap₂ min e q
+    ∙ least-one
+    (record {
+      low = omega arith;
+      high = omega arith;
+      none = λ j u v. all-same k j c n ∙ l .none j u (omega arith);
+      hit = λ u. subst (λ (x : ℕ). passesAll (queryT k) c x ≡ true) (let z : T ≡ min T (10 ^ (maxPlaces - k)) = omega arith in z) (all-same k T c n ∙ l .hit (omega arith));
+    })
+    (search-least (queryT k) c 0 (10 ^ (maxPlaces - k)) (omega arith))
+
 -- ---- a search for t
+
+pub alone-is : (r : ℕ) (c : List Relation) → r ≡ search alone c 0 (10 ^ maxPlaces) → r ≡ aloneOf c
+unfolding aloneOf
+alone-is r c h = h
 
 pub tail-is : (k p e r : ℕ) (c : List Relation) → p ≡ 10 ^ k → e ≡ 10 ^ (maxPlaces - k) → r ≡ search (record { n = 0; i = 0; f = p; t = 1; odd = true }) c 0 e → r ≡ tailOf k c
 unfolding tailOf
@@ -186,13 +225,14 @@ module _ (c : List Relation) where
   unfolding partCode
   part-start = refl
 
-  pub part-none : ((k : ℕ) → k < maxPlaces → tailCode k c ≡ fractions) → fractions ≡ partCode maxPlaces c
+  -- no t alone: then none before zeros
+  pub part-none : (t : ℕ) → t ≡ aloneOf c → 10 ^ maxPlaces ≤ t → fractions ≡ partCode maxPlaces c
   unfolding partCode
-  part-none f = sym (go maxPlaces (omega arith))
+  part-none t e l = sym (go maxPlaces (omega arith))
     where
       go : (n : ℕ) → n ≤ maxPlaces → partCode n c ≡ fractions
       go zero h = refl
-      go (suc n) h = let a = go n (omega arith) in let b = f n (omega arith) in omega arith
+      go (suc n) h = let a = go n (omega arith) in let b = no-tail c t e l n (omega arith) in omega arith
 
   pub part-more : (best y z k : ℕ) → best ≡ partCode k c → y ≡ tailCode k c → z ≡ min best y → z ≡ partCode (k + 1) c
   unfolding partCode
@@ -223,6 +263,28 @@ module _ (c : List Relation) where
   pub code-part : (w : Bool) (r : ℕ) → w ≡ false → r ≡ partCode maxPlaces c → r ≡ fractionCode w c
   unfolding fractionCode
   code-part w r e h = rw e h
+
+-- ---- where no v and w other than 0 are settled
+
+abbrev pub Place : ℕ → Type 0
+Place x = (1 ≤ x) × (x ≤ maxPlaces)
+
+tail-shut : (c : List Relation) → ((v w : ℕ) → Place v → Place w → all (settledF v w) c ≡ false) → (k : ℕ) → k < maxPlaces → fractions ≡ tailCode k c
+tail-shut c f k hk =
+    let s = seek (λ v. all (settledF v (v - k)) c) (maxPlaces - k) (suc k) in
+    let l = seek-least (λ v. all (settledF v (v - k)) c) (maxPlaces - k) (suc k) in
+    tail-unsettled k hk c s refl
+    (⊎-elim (λ z. z)
+    (λ z. not-both (l .hit (omega arith)) (f s (s - k) (omega (arith, l .low), z) (omega (arith, l .low), omega arith)))
+    (split maxPlaces s))
+
+pub part-shut : (c : List Relation) → ((v w : ℕ) → Place v → Place w → all (settledF v w) c ≡ false) → fractions ≡ partCode maxPlaces c
+unfolding partCode
+part-shut c shut = sym (go maxPlaces (omega arith))
+  where
+    go : (n : ℕ) → n ≤ maxPlaces → partCode n c ≡ fractions
+    go zero h = refl
+    go (suc n) h = let x = go n (omega arith) in let y = tail-shut c shut n (omega arith) in omega arith
 
 -- ---- the names of what is sought
 

@@ -13,7 +13,7 @@ use Rattle.number.specs.Limits.{maxDigits, maxPlaces}
 use Rattle.least.proofs.Seeking.{split, and-true}
 use Rattle.clash_laws.specs.Check.{lowest, admits, rank, ranked, ranks}
 use Rattle.clash_laws.specs.Claims.{IsAdmitted, Before}
-use Rattle.clash_laws.proofs.Leaping.{both-held}
+use Rattle.clash_laws.proofs.Searched.{both-held}
 
 low-shifted : (e i : ℕ) → lowest e ≤ i → 0 < e → 10 ^ e ≤ i
 low-shifted e i h k = tested (eqb e 0) (λ z. absurd (no (eqb-true e 0 z))) (λ z. rw z at h)

@@ -11,11 +11,9 @@ use Rattle.decimal.proofs.Choices.{tested, not-both}
 use Rattle.decimal.proofs.Values.{power-mono}
 use Rattle.number.specs.Limits.{maxDigits, maxPlaces}
 use Rattle.rules.specs.Stretch.{Table, relationAt}
-use Rattle.clash_laws.specs.Fast.{test, search}
+use Rattle.clash_laws.specs.Fast.{test, search, alone}
 use Rattle.clash_laws.specs.Read.{cap, joinedIn}
-use Rattle.clash_laws.specs.Hop.{Room}
-use Rattle.clash_laws.specs.Ready.{ready, leastIn, holdsIn}
-use Rattle.clash_laws.proofs.Placing.{alone}
+use Rattle.clash_laws.specs.Ready.{Room, Fit, ready, leastIn, holdsIn}
 use Rattle.clash_laws.specs.declared.Query.{Query}
 use Rattle.clash_laws.specs.declared.Span.{Span}
 
@@ -60,6 +58,33 @@ ready-room s q lo hi e =
             let f = ltb-false 1000000000 (q .f) (k .0) in
             let g = leb-true hi 1000000000 (k .1) in
             roomy q hi n i t (omega arith) (omega (arith, mul-le-mul-right (q .f) g))
+
+-- and its factors are those of a search
+pub ready-fit : (s : Span) (q : Query) (lo hi : ℕ) → ready s q lo hi ≡ true → Fit q
+ready-fit s q lo hi e =
+    let a = past (ltb hi lo) _ e in
+    let b = past (ltb 320 (s .to)) _ (a .1) in
+    let c = past (ltb 320 (s .stop)) _ (b .1) in
+    let n = past _ _ (c .1) in
+    let i = past _ _ (n .1) in
+    let t = past _ _ (i .1) in
+    record {
+      n = ltb-false 1 (q .n) (n .0);
+      i = ltb-false 1 (q .i) (i .0);
+      t = ltb-false 1 (q .t) (t .0);
+      f = small (t .1);
+    }
+  where
+    small : (if eqb (q .f) 0 then leb hi cap else if ltb 1000000000 (q .f) then false else leb hi 1000000000) ≡ true → q .f ≤ 1000000000
+    small h =
+        tested (eqb (q .f) 0) (λ z. omega (arith, eqb-true (q .f) 0 z))
+        (λ z. let k = past _ _ (rw z at h) in ltb-false 1000000000 (q .f) (k .0))
+
+-- small numbers have room at the factors of every search
+pub fit-room : (q : Query) (x : ℕ) → Fit q → x ≤ 1_000_000_000 → Room q x
+fit-room q x f h =
+    let g = f .f in
+    roomy q x (f .n) (f .i) (f .t) (omega arith) (omega (arith, mul-le-mul-right (q .f) h))
 
 -- ---- where there is room, the search is the search
 

@@ -1,18 +1,19 @@
 -- What the code of settled relations works out, way by way, and all of a stretch or of two.
 use mathlib.Core.Path.{_≡_, refl, sym, ap, _∙_}
 use mathlib.Core.Bool.{Bool, true, false, not}
-use mathlib.Core.List.{List, _++_}
-use Prim.Native.Nat.{ℕ, _+_, _-_, _*_, _≤_, _<_}
+use mathlib.Core.List.{List, [], _∷_, _++_}
+use Prim.Native.Nat.{ℕ, _+_, _*_, _≤_, _<_}
 use lib.Dec.{eqb}
+use lib.ListN.{getD}
 use borrow.Author.Tests.{eq-eqb, ne-eqb}
-use Rattle.decimal.specs.Choice.{if_then_else_, both}
+use Rattle.decimal.specs.Choice.{if_then_else_, both, either}
 use Rattle.rules.specs.Syntax.{Relation}
 use Rattle.plural.specs.Meaning.{all}
 use Rattle.least.proofs.Seeking.{and-false-left}
-use Rattle.clash_laws.specs.Fast.{factor, test, passes, queryT, ofExponent, settledE, settledF}
+use Rattle.clash_laws.specs.Fast.{asksOf, factor, test, passes, queryT, ofExponent, settledE}
 use Rattle.rules.specs.Stretch.{Table, relationAt, relationsIn}
 use Rattle.rules.proofs.Stretches.{stretch-cons, stretch-nil}
-use Rattle.clash_laws.proofs.Windowing.{all-append}
+use Rattle.clash_laws.proofs.Searched.{all-append}
 
 -- ---- letters
 
@@ -51,27 +52,6 @@ module _ (r : Relation) where
   pub no-exponent : (x : Bool) (e : ℕ) → x ≡ ofExponent (r .operand) → x ≡ false → true ≡ settledE e r
   unfolding settledE
   no-exponent x e g h = rw (sym g ∙ h)
-
-  module _ (v w : ℕ) where
-    pub n-whole : r .operand ≡ 110 → w ≡ 0 → true ≡ settledF v w r
-    unfolding settledF
-    n-whole a b = rw (eq-eqb (r .operand) 110 a, eq-eqb w 0 b)
-
-    pub n-part : r .operand ≡ 110 → (w ≡ 0 → ⊥) → r .negated ≡ settledF v w r
-    unfolding settledF
-    n-part a b = rw (eq-eqb (r .operand) 110 a, ne-eqb w 0 b)
-
-    pub at-v : (b : Bool) → (r .operand ≡ 110 → ⊥) → r .operand ≡ 118 → b ≡ test r v → b ≡ settledF v w r
-    unfolding settledF
-    at-v b n e h = rw (ne-eqb (r .operand) 110 n, eq-eqb (r .operand) 118 e) h
-
-    pub at-w : (b : Bool) → (r .operand ≡ 110 → ⊥) → (r .operand ≡ 118 → ⊥) → r .operand ≡ 119 → b ≡ test r w → b ≡ settledF v w r
-    unfolding settledF
-    at-w b n m e h = rw (ne-eqb (r .operand) 110 n, ne-eqb (r .operand) 118 m, eq-eqb (r .operand) 119 e) h
-
-    pub at-other : (r .operand ≡ 110 → ⊥) → (r .operand ≡ 118 → ⊥) → (r .operand ≡ 119 → ⊥) → true ≡ settledF v w r
-    unfolding settledF
-    at-other n m e = rw (ne-eqb (r .operand) 110 n, ne-eqb (r .operand) 118 m, ne-eqb (r .operand) 119 e)
 
   by-letter : (l : ℕ) (b : Bool) → r .operand ≡ l → b ≡ (if not (eqb (factor (queryT 0) l) 0) then test r (0 * factor (queryT 0) l) else true) → b ≡ passes (queryT 0) r 0
   unfolding passes
@@ -118,3 +98,33 @@ module _ (P : Relation → Bool) (c d : List Relation) where
 
   pub join-yes : (a b : Bool) → a ≡ all P c → a ≡ true → b ≡ all P d → b ≡ all P (c ++ d)
   join-yes a b e f g = g ∙ sym (all-append P c d ∙ ap (λ (x : Bool). both x (all P d)) (sym e ∙ f))
+
+-- ---- whether one of a stretch, or of two, has an operand
+
+module _ (T : Table) (to o : ℕ) where
+  abbrev pub Asks : ℕ → Bool
+  Asks j = asksOf o (relationsIn T j to)
+
+  pub asks-here : (j : ℕ) → j < to → getD (T .operand) j 0 ≡ o → Asks j ≡ true
+  asks-here j h e = ap (asksOf o) (stretch-cons (relationAt T) j to h) ∙ ap (λ (x : Bool). either x (Asks (j + 1))) (eq-eqb (getD (T .operand) j 0) o e)
+
+  pub asks-more : (j : ℕ) → j < to → (getD (T .operand) j 0 ≡ o → ⊥) → Asks j ≡ Asks (j + 1)
+  asks-more j h e = ap (asksOf o) (stretch-cons (relationAt T) j to h) ∙ ap (λ (x : Bool). either x (Asks (j + 1))) (ne-eqb (getD (T .operand) j 0) o e)
+
+  pub asks-end : (j : ℕ) → to ≤ j → Asks j ≡ false
+  asks-end j h = ap (asksOf o) (stretch-nil (relationAt T) j to h)
+
+asks-append : (o : ℕ) (c d : List Relation) → asksOf o (c ++ d) ≡ either (asksOf o c) (asksOf o d)
+asks-append o [] d = refl
+asks-append o (r ∷ c) d = ap (either (eqb (r .operand) o)) (asks-append o c d) ∙ regroup (eqb (r .operand) o)
+  where
+    regroup : (a : Bool) → either a (either (asksOf o c) (asksOf o d)) ≡ either (either a (asksOf o c)) (asksOf o d)
+    regroup true = refl
+    regroup false = refl
+
+module _ (o : ℕ) (c d : List Relation) where
+  pub asks-first : (a : Bool) → a ≡ asksOf o c → a ≡ true → true ≡ asksOf o (c ++ d)
+  asks-first a e f = sym (asks-append o c d ∙ ap (λ (x : Bool). either x (asksOf o d)) (sym e ∙ f))
+
+  pub asks-second : (a b : Bool) → a ≡ asksOf o c → a ≡ false → b ≡ asksOf o d → b ≡ asksOf o (c ++ d)
+  asks-second a b e f g = g ∙ sym (asks-append o c d ∙ ap (λ (x : Bool). either x (asksOf o d)) (sym e ∙ f))

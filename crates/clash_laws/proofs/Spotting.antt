@@ -17,7 +17,7 @@ use Rattle.rules.specs.Syntax.{Relation}
 use Rattle.least.proofs.Seeking.{split}
 use Rattle.clash_laws.specs.Check.{lowest, block, ranks}
 use Rattle.clash_laws.specs.Fast.{search, exponentOf, fractions, fractionCode, integerOf, placed, kindRank, clauseRank}
-use Rattle.clash_laws.specs.Hop.{Room}
+use Rattle.clash_laws.specs.Ready.{Room}
 use Rattle.clash_laws.specs.Spots.{spotRank, Proper}
 use Rattle.clash_laws.proofs.FastIs.{lowest-le}
 
@@ -126,6 +126,11 @@ module _ (w : Bool) (e : ℕ) (c : List Relation) where
 
   pub kind-no-integer : (q i r : ℕ) → q ≡ fractionCode w c → q < fractions → i ≡ integerOf w e c → 10 ^ maxDigits ≤ i → r ≡ ranks → KindSays r
   kind-no-integer q i r g h f l k = says-none (some-fraction q g h ∙ ap (λ (b : Bool). if b then placed (fractionCode w c) (integerOf w e c) else block) (le-ltb (integerOf w e c) (10 ^ maxDigits) (omega arith))) r k
+
+  -- no i, whatever f is
+  pub kind-none : (i r : ℕ) → i ≡ integerOf w e c → 10 ^ maxDigits ≤ i → r ≡ ranks → KindSays r
+  kind-none i r f l k =
+      ⊎-elim (λ h. kind-no-integer (fractionCode w c) i r refl h f l k) (λ h. kind-no-fraction (fractionCode w c) r refl h k) (split (fractionCode w c) fractions)
 
   pub kind-found : (q i : ℕ) → q ≡ fractionCode w c → q < fractions → i ≡ integerOf w e c → i < 10 ^ maxDigits
       → KindSays (spotRank (record { e = e; v = record { 0 = q / 10 ^ maxPlaces }; i = i; f = record { 0 = q % 10 ^ maxPlaces } }))

@@ -2,33 +2,25 @@
 -- one of t, where f = t * 10 ^ (v - w) and t does not end in 0 unless it is 0. So the least i and the least t of a clause are searched for apart.
 use mathlib.Core.Bool.{Bool, true, false, not}
 use mathlib.Core.List.{List, [], _∷_, _++_}
-use Prim.Native.Nat.{ℕ, zero, suc, _+_, _-_, _*_, _/_, _%_, _^_, min, max}
+use Prim.Native.Nat.{ℕ, zero, suc, _+_, _-_, _*_, _/_, _%_, _^_, min}
 use lib.Dec.{leb, ltb, eqb}
 use Rattle.decimal.specs.Choice.{if_then_else_, both, either}
 use Rattle.number.specs.Limits.{maxExponent, maxDigits, maxPlaces}
 use Rattle.rules.specs.Syntax.{Range, Relation, Rule}
 use Rattle.plural.specs.Meaning.{any, all, inRange}
 use Rattle.least.specs.Seek.{seek}
-use Rattle.least.specs.Leap.{far, into, outOf, upwards, windowEnd, window}
 use Rattle.clash_laws.specs.Check.{lowest, block, ranks, firstPair}
 use Rattle.clash_laws.specs.declared.Checked.{Checked}
 pub use Rattle.clash_laws.specs.declared.Query.{Query}
 
--- ---- a relation at a whole value of its operand, and its leaps
+-- ---- a relation at a whole value of its operand
+
+-- what a relation says of a remainder, or of a value where it has no modulus
+unfoldable pub listed : Relation → ℕ → Bool
+listed r y = if r .negated then not (any (inRange y) (r .ranges)) else any (inRange y) (r .ranges)
 
 unfoldable pub test : Relation → ℕ → Bool
-test r x = if r .negated then not (any (inRange (x % r .modulus)) (r .ranges)) else any (inRange (x % r .modulus)) (r .ranges)
-
-unfoldable pub intoAny : ℕ → List Range → ℕ → ℕ
-intoAny m [] x = far + x
-intoAny m (r ∷ rs) x = min (into m (r .low) (r .high) x) (intoAny m rs x)
-
-unfoldable pub outOfAll : ℕ → List Range → ℕ → ℕ
-outOfAll m [] x = x
-outOfAll m (r ∷ rs) x = max (outOf m (r .low) (r .high) x) (outOfAll m rs x)
-
-unfoldable pub leapTest : Relation → ℕ → ℕ
-leapTest r x = if r .negated then outOfAll (r .modulus) (r .ranges) x else intoAny (r .modulus) (r .ranges) x
+test r x = listed r (x % r .modulus)
 
 -- ---- the search for one number
 
@@ -61,52 +53,9 @@ ends q x = if q .odd then not (eqb (x % 10) 0) else true
 unfoldable pub passesAll : Query → List Relation → ℕ → Bool
 passesAll q c x = both (ends q x) (all (λ (r : Relation). passes q r x) c)
 
--- their leaps
-unfoldable pub leapOne : Query → Relation → ℕ → ℕ
-leapOne q r x = if asked q r then upwards (leapTest r (x * factor q (r .operand))) (factor q (r .operand)) else x
-
-unfoldable pub leapEnd : Query → ℕ → ℕ
-leapEnd q x = if both (q .odd) (eqb (x % 10) 0) then suc x else x
-
-unfoldable pub leapEach : Query → List Relation → ℕ → ℕ
-leapEach q [] x = x
-leapEach q (r ∷ rs) x = max (leapOne q r x) (leapEach q rs x)
-
-abbrev pub leapAll : Query → List Relation → ℕ → ℕ
-leapAll q c x = max (leapEnd q x) (leapEach q c x)
-
--- From `reach` on, past all values that are compared without a modulus, the tests repeat with the largest modulus as period: if all divide it.
-unfoldable pub top : List Range → ℕ
-top [] = 0
-top (r ∷ rs) = max (suc (r .high)) (top rs)
-
-unfoldable pub reach : Query → List Relation → ℕ
-reach q [] = 0
-reach q (r ∷ rs) = max (if both (asked q r) (eqb (r .modulus) 0) then top (r .ranges) else 0) (reach q rs)
-
-abbrev pub leastPeriod : Query → ℕ
-leastPeriod q = if q .odd then 10 else 1
-
-unfoldable pub largest : Query → List Relation → ℕ
-largest q [] = 0
-largest q (r ∷ rs) = max (if asked q r then r .modulus else 0) (largest q rs)
-
-abbrev pub period : Query → List Relation → ℕ
-period q c = max (leastPeriod q) (largest q c)
-
--- the modulus m divides p, or is none
-abbrev pub divides : ℕ → ℕ → Bool
-divides m p = either (eqb m 0) (eqb (p % m) 0)
-
-unfoldable pub repeats : Query → List Relation → ℕ → Bool
-repeats q c p = both (divides (leastPeriod q) p) (all (λ (r : Relation). if asked q r then divides (r .modulus) p else true) c)
-
-abbrev pub searchEnd : Query → List Relation → ℕ → ℕ → ℕ
-searchEnd q c lo hi = windowEnd (repeats q c (period q c)) (reach q c) (period q c) lo hi
-
 -- the least x from lo on and below hi that passes, or hi
 unfoldable pub search : Query → List Relation → ℕ → ℕ → ℕ
-search q c lo hi = window (leapAll q c) (searchEnd q c lo hi) lo hi
+search q c lo hi = seek (passesAll q c) (hi - lo) lo
 
 -- ---- what e, and what v and w, settle
 
@@ -145,6 +94,17 @@ unfoldable pub wholeCode : List Relation → ℕ
 wholeCode c =
     elim (all (λ (r : Relation). passes (queryT 0) r 0) c)
     [ true ↦ seek (λ v. all (settledF v 0) c) (suc maxPlaces) 0 * 10 ^ maxPlaces | false ↦ fractions ]
+
+-- the least t by what is asked of t alone; no more than that is asked at any count of zeros where no relation asks f
+abbrev pub alone : Query
+alone = record { n = 0; i = 0; f = 0; t = 1; odd = true }
+
+unfoldable pub aloneOf : List Relation → ℕ
+aloneOf c = search alone c 0 (10 ^ maxPlaces)
+
+-- one of the relations has the operand o
+abbrev pub asksOf : ℕ → List Relation → Bool
+asksOf o c = any (λ (r : Relation). eqb (r .operand) o) c
 
 -- the least t before k zeros, for any v; and the least v and f with it
 unfoldable pub tailOf : ℕ → List Relation → ℕ

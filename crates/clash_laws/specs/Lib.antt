@@ -1,8 +1,9 @@
 pub mod Check
 pub mod Fast
+pub mod Levels
 pub mod Claims
 pub mod Read
-pub mod Hop
 pub mod Spots
-pub mod Sieve
 pub mod Ready
+pub mod Bounded
+pub mod Floors

@@ -5,13 +5,8 @@ use lib.ListN.{getD}
 pub use Rattle.decimal.specs.Digits.{cap}
 use Rattle.answer.specs.declared.Keyword.the-variants.{Other}
 use Rattle.rules.specs.Syntax.{Relation, Rule}
-use Rattle.rules.specs.Stretch.{startAt, rangesIn, Table, relationsIn, clausesIn}
-use Rattle.clash_laws.specs.Fast.{top}
+use Rattle.rules.specs.Stretch.{startAt, Table, relationsIn, clausesIn}
 use Rattle.clash_laws.specs.declared.Span.{Span}
-
--- past the upper ends of the ranges of a stretch
-abbrev pub topIn : List ℕ → ℕ → ℕ → ℕ
-topIn high from to = top (rangesIn high high from to)
 
 -- the clause that two stretches make
 abbrev pub joinedIn : Table → Span → List Relation

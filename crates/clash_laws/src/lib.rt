@@ -1,10 +1,12 @@
 // What the pack check answers, and the laws of its search. There are types here and no function.
 //
 // specs/Check.antt is the definition, a search over all admitted numbers in document 01's order;
-// specs/Fast.antt is the search that is run, by leaps; proofs/FastIs.antt shows that they agree.
+// specs/Fast.antt is the search that is run, part by part, and proofs/FastIs.antt shows that they agree;
+// specs/Levels.antt sorts the relations by the power of ten that they ask.
 // specs/Read.antt says what stretches of a pack's arrays hold.
 use answer::Pair;
 use answer::Witness;
+use decimal::Places;
 
 pub enum Checked {
     Passes,
@@ -28,4 +30,17 @@ pub struct Span {
     pub to: usize,
     pub start: usize,
     pub stop: usize,
+}
+
+// A number's v: from `least` to `most`.
+pub struct Bounds {
+    pub least: Places,
+    pub most: Places,
+}
+
+// No number below these can be: i where f is 0, i where it is not, and t.
+pub struct Floors {
+    pub whole: u64,
+    pub part: u64,
+    pub tail: u64,
 }

@@ -1,3 +1,2 @@
 pub mod Seeking
-pub mod Ranges
-pub mod Windows
+pub mod Segmented

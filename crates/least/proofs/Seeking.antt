@@ -1,11 +1,11 @@
--- Laws of `seek`, `Least` and `Leap`.
+-- Laws of `seek`, `Least` and tests joined.
 use mathlib.Core.Path.{_≡_, refl, sym, subst, _∙_}
 use mathlib.Core.Bool.{Bool, true, false, true≢false}
 use mathlib.Core.Logic.{_⊎_, ⊎-elim, inl, inr}
 use Prim.Native.Nat.{ℕ, zero, suc, _+_, _-_, _≤_, _<_, min, max}
 use native.Mathlib.Omega.{arith}
 use native.Mathlib.Decide.{decLt}
-use Rattle.least.specs.Seek.{seek, Least, Leap}
+use Rattle.least.specs.Seek.{seek, Least, Next, Alike}
 use Rattle.decimal.specs.Choice.{both, either}
 
 -- two numbers in order, or the other way round
@@ -95,42 +95,3 @@ least-or {P} {Q} {lo} {hi} {r} {s} a b = record {
       (λ k. let e : s ≡ min r s = omega arith in or-true-right (P (min r s)) (subst (λ (x : ℕ). Q x ≡ true) e (b .hit (omega arith))))
       (split r s);
 }
-
--- a leap over both tests, over either
-pub leap-and : {P Q : ℕ → Bool} {x y z : ℕ} → Leap P x y → Leap Q x z → Leap (λ j. both (P j) (Q j)) x (max y z)
-leap-and {P} {Q} {x} {y} {z} a b = record {
-  low = omega (arith, a .low, b .low);
-  none = λ j l h. ⊎-elim (λ k. and-false-left _ (a .none j l k)) (λ k. and-false-right (P j) (b .none j l (omega arith))) (split j y);
-  hit = λ h. and-true (a .hit (omega (arith, a .low, b .low))) (b .hit (omega (arith, a .low, b .low)));
-}
-
-pub leap-or : {P Q : ℕ → Bool} {x y z : ℕ} → Leap P x y → Leap Q x z → Leap (λ j. either (P j) (Q j)) x (min y z)
-leap-or {P} {Q} {x} {y} {z} a b = record {
-  low = omega (arith, a .low, b .low);
-  none = λ j l h. or-false (a .none j l (omega arith)) (b .none j l (omega arith));
-  hit = λ h. ⊎-elim (λ k. or-true-left _ (a .hit (omega (arith, a .low, b .low)))) (λ k. or-true-right (P x) (b .hit (omega (arith, a .low, b .low)))) (split y z);
-}
-
--- a leap is a step of a search
-pub least-leap : {P : ℕ → Bool} {x y hi r : ℕ} → Leap P x y → Least P y hi r → Least P x hi r
-least-leap a l = least-after (a .low) (a .none) l
-
--- From B on the test says the same at x and at x + p.
-module _ (P : ℕ → Bool) (B p : ℕ) (pos : 0 < p) (same : (x : ℕ) → B ≤ x → P (x + p) ≡ P x) where
-  -- so what fails for p numbers in a row, from B or later on, fails for good
-  within : (lo : ℕ) → B ≤ lo → ((j : ℕ) → lo ≤ j → j < lo + p → P j ≡ false) → (n j : ℕ) → lo ≤ j → j < lo + p + n → P j ≡ false
-  within lo hb f zero j l h = f j l (omega arith)
-  within lo hb f (suc n) j l h =
-      ⊎-elim (f j l)
-      (λ k. subst (λ (x : ℕ). P x ≡ false) (omega arith) (same (j - p) (omega arith) ∙ within lo hb f n (j - p) (omega arith) (omega arith)))
-      (split j (lo + p))
-
-  pub for-good : (lo : ℕ) → B ≤ lo → ((j : ℕ) → lo ≤ j → j < lo + p → P j ≡ false) → (j : ℕ) → lo ≤ j → P j ≡ false
-  for-good lo hb f j l = within lo hb f j j l (omega arith)
-
-  -- a search that is done for the first p numbers from B and lo on is done
-  pub least-period : {lo mid : ℕ} (hi : ℕ) → max lo B + p ≤ mid → mid ≤ hi → Least P lo mid mid → Least P lo hi hi
-  least-period {lo} {mid} hi a b l = least-none P lo hi (omega (arith, l .low)) λ j k h. ⊎-elim
-      (λ m. l .none j k m)
-      (λ m. for-good (max lo B) (omega arith) (λ i u v. l .none i (omega arith) (omega arith)) j (omega arith))
-      (split j mid)

@@ -1,2 +1,2 @@
 pub mod Seek
-pub mod Leap
+pub mod Segments

@@ -15,8 +15,13 @@ pub record Least (P : ℕ → Bool) (lo hi r : ℕ) : Type 0 where
   pub none : (j : ℕ) → lo ≤ j → j < r → P j ≡ false
   pub hit : r < hi → P r ≡ true
 
--- A search for P may go from x straight to y: P fails from x to before y, and y is x only where P passes at x.
-pub record Leap (P : ℕ → Bool) (x y : ℕ) : Type 0 where
+-- y is the least number from x on that passes P
+pub record Next (P : ℕ → Bool) (x y : ℕ) : Type 0 where
   pub low : x ≤ y
-  pub none : (j : ℕ) → x ≤ j → j < y → P j ≡ false
-  pub hit : y ≡ x → P x ≡ true
+  pub none : (k : ℕ) → x ≤ k → k < y → P k ≡ false
+  pub hit : P y ≡ true
+
+-- P says the same of all numbers from x to before `stop`
+pub record Alike (P : ℕ → Bool) (x : ℕ) (says : Bool) (stop : ℕ) : Type 0 where
+  pub some : x < stop
+  pub same : (k : ℕ) → x ≤ k → k < stop → P k ≡ says

@@ -1,4 +1,4 @@
-// The least number that passes a test: definitions of the search by leaps, and its laws.
+// The least number that passes a test: what is searched for, and the laws of a search level by level.
 //
-// specs/Seek.antt says what is searched for, specs/Leap.antt how a search leaps. There is no code here:
-// crate leaps runs the search over a pack's arrays.
+// specs/Seek.antt says what is searched for, specs/Segments.antt how the next number of a level is found
+// from its segments. There is no code here: crate next_table has it.

@@ -3,7 +3,7 @@
 use mathlib.Core.Path.{_≡_}
 use mathlib.Core.Bool.{Bool, false}
 use mathlib.Core.List.{List, [], _∷_}
-use Prim.Native.Nat.{ℕ, _-_, _≤_, max}
+use Prim.Native.Nat.{ℕ, _-_}
 use lib.Dec.{eqb, ltb}
 use lib.ListN.{length, take, drop, set}
 use Rattle.decimal.specs.Choice.{if_then_else_}
@@ -12,7 +12,7 @@ use Rattle.answer.specs.Table.{numberOf}
 use Rattle.answer.specs.declared.Refusal.the-variants.{PackTooLong, Pack as OfPack}
 use Rattle.rules.specs.Held.{lent}
 use Rattle.rules.specs.declared.Pack.{Pack}
-use Rattle.token.specs.Token.{whiteLen, Token, tokens}
+use Rattle.token.specs.Token.{Token, tokens}
 use Rattle.grammar.specs.Limits.{maxBytes}
 use Rattle.grammar.specs.Grammar.{Text, semi}
 use Rattle.grammar.specs.Reader.{rowOf}
@@ -106,13 +106,6 @@ boards b (t ∷ ts) = boards (boardAfter b (t .text) (t .at)) ts
 -- the token of m bytes at a place of a text; behind the text, its end
 abbrev pub tokenAt : Text → Text → ℕ → ℕ → Text
 tokenAt s end at m = if ltb at (length s) then take m (drop at s) else end
-
--- the place behind the white space that stands at a place
-pub record Skipped (s : Text) (from at : ℕ) : Type 0 where
-  pub onward : from ≤ at
-  pub bound : at ≤ max (length s) from
-  pub none : whiteLen (drop at s) ≡ 0
-  pub same : tokens at (drop at s) ≡ tokens from (drop from s)
 
 -- a text, or nothing of it where it is too long
 abbrev pub within4096 : Text → Text

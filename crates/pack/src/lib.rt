@@ -5,12 +5,11 @@
 // specs/Board.antt says how a token changes the arrays. The arrays are made and filled where they are
 // returned from, one lent at a time: a pack is some 21 KB, and a copy of it costs what its reading does.
 ghost use mathlib.Core.Path.{_≡_};
-ghost use lib.ListN.{length};
-ghost use Prim.Native.Nat.{_-_, _≤_};
+ghost use Prim.Native.Nat.{_-_};
 ghost use Rattle.grammar.specs.Reader.{rowOf, readPack};
 ghost use Rattle.walk.specs.Steps.{stepAfter};
 ghost use Rattle.pack.specs.Answer.{placeIn, packRowAt, verdictAt, ReadAs};
-ghost use Rattle.pack.specs.Board.{setIf, tokenAt, startWalk, within4096, Skipped, faultVerdict, judged, judgedAll, outcomeOf};
+ghost use Rattle.pack.specs.Board.{setIf, tokenAt, startWalk, within4096, faultVerdict, judged, judgedAll, outcomeOf};
 use answer::PackRow;
 use answer::Place;
 use answer::Refusal;
@@ -20,7 +19,7 @@ use phase::Phase;
 use phase::number;
 use rules::Pack;
 use token::piece_len;
-use token::white_len;
+use token::skip_white;
 use walk::Counts;
 use walk::Current;
 use walk::Mark;
@@ -145,22 +144,6 @@ fn step_on(t: &[u8], at: usize, keys: &[u8; 6], w: Walk) -> Step
     ensures { λ r. ⌜ r ≡ stepAfter (now (t .entry)) at (now (keys .entry)) w ⌝ }
 {
     step_after(t, at, keys, w)
-}
-
-// Where the white space ends that stands at a place.
-fn skip_white(s: &[u8], from: usize) -> usize
-    requires { ⌜ length (now s) ≤ 4096 ⌝ }
-    ensures { λ r. ⌜ Skipped (now (s .entry)) from r ⌝ }
-{
-    let mut at = from;
-    while at < s.len() {
-        let n = white_len(s, at);
-        if n == 0 {
-            return at;
-        }
-        at += n;
-    }
-    at
 }
 
 // The text, or nothing of it where it is too long.

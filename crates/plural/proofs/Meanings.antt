@@ -3,12 +3,15 @@ use mathlib.Core.Path.{_≡_, refl, sym, ap, _∙_}
 use mathlib.Core.Bool.{Bool, true, false, not}
 use mathlib.Core.List.{List, [], _∷_}
 use Prim.Native.Nat.{ℕ, _%_, _+_, _-_, _≤_, _<_}
+use native.Mathlib.Omega.{arith}
+use lib.ListN.{length, List·getD-eq-default}
 use Rattle.decimal.specs.Choice.{if_then_else_, both, either}
 use Rattle.number.specs.declared.Number.{Number}
 use Rattle.rules.specs.Syntax.{Range, Relation, Rule}
-use Rattle.rules.specs.Stretch.{stretch}
+use Rattle.rules.specs.Stretch.{stretch, startAt, Table, clauseAt}
 use Rattle.rules.proofs.Stretches.{stretch-cons, stretch-nil}
-use Rattle.plural.specs.Meaning.{any, all, inRange, operandValue, isWhole, equals, holds}
+use Rattle.plural.specs.Meaning.{any, all, inRange, operandValue, isWhole, equals, holds, clauseHolds}
+use Rattle.plural.specs.Places.{metAt}
 
 -- a number that is not whole is in no list
 pub not-whole : (r : Relation) (x : Number) → isWhole (r .operand) x ≡ false → r .negated ≡ holds r x
@@ -49,3 +52,8 @@ module _ {A : Type 0} (p : A → Bool) (g : ℕ → A) where
 
   pub all-passed : (k to : ℕ) → to ≤ k → all p (stretch g k (to - k)) ≡ true
   all-passed k to h = rw (stretch-nil g k to h)
+
+-- no number meets a rule that the arrays have no room for
+pub past-none : (T : Table) (relations clauses : List ℕ) (x : Number) (j : ℕ) → length clauses ≤ j → false ≡ metAt T relations clauses x j
+past-none T relations clauses x j h =
+    sym (rw (List·getD-eq-default clauses 0 h) (any-none (λ (c : List Relation). clauseHolds c x) (clauseAt T relations) (startAt clauses j) 0 (omega arith)))

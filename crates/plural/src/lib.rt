@@ -1,15 +1,17 @@
 // Chooses the plural word of a number by the rules of a pack.
 //
-// The entry is select_held, for a read number and a parsed pack whose arrays are lent: a pack that is
-// kept serves many numbers without a copy of it. specs/Meaning.antt says what rules mean of a number,
-// specs/Select.antt which word that gives.
+// The entries are select_held and meets_held, for a number and a parsed pack whose arrays are lent: a
+// pack that is kept serves many numbers without a copy of it. specs/Meaning.antt says what rules mean
+// of a number, specs/Select.antt which word that gives.
 mod mask;
 mod meaning;
 
 ghost use mathlib.Core.Path.{_≡_};
 ghost use Prim.Native.Nat.{_<_};
-ghost use lib.ListN.{getD};
+ghost use lib.ListN.{length, getD};
 ghost use Rattle.rules.specs.Held.{keywordOf, heldRules, lent};
+ghost use Rattle.rules.specs.Stretch.{table};
+ghost use Rattle.plural.specs.Places.{metAt};
 ghost use Rattle.plural.specs.Select.{selection};
 use answer::Keyword;
 use answer::Pair;
@@ -109,4 +111,43 @@ pub fn select_held<'a>(
         first: behind as u8,
         second: (second + 1) as u8,
     }))
+}
+
+// How many rules there is room for.
+fn room(clauses: &[usize]) -> usize
+    ensures { λ r. ⌜ r ≡ length (now (clauses .entry)) ⌝ }
+{
+    clauses.len()
+}
+
+// Whether a number meets the rule at the index j of a pack's arrays; no number meets one past them.
+pub fn meets_held<'a>(
+    operand: &'a [u8; 320],
+    modulus: &'a [u32; 320],
+    negated: &'a [bool; 320],
+    ranges: &'a [usize; 320],
+    low: &'a [u32; 2048],
+    high: &'a [u32; 2048],
+    relations: &'a [usize; 40],
+    clauses: &'a [usize; 6],
+    j: usize,
+    x: Number,
+) -> bool
+    ensures { λ r. ⌜ r ≡ metAt (table (now (operand .entry)) (now (modulus .entry)) (now (negated .entry)) (now (ranges .entry)) (now (low .entry)) (now (high .entry))) (now (relations .entry)) (now (clauses .entry)) x j ⌝ }
+{
+    if j < room(clauses) {
+        return mask::met_at(
+            operand,
+            modulus,
+            negated,
+            ranges,
+            low,
+            high,
+            relations,
+            clauses,
+            j,
+            x,
+        );
+    }
+    false
 }

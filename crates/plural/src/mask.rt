@@ -38,6 +38,36 @@ fn clauses_stop(clauses: &[usize; 6], j: usize) -> usize
     meaning::lesser(clauses[j], MAX_CLAUSES)
 }
 
+// Whether the number meets the rule j.
+pub fn met_at<'a>(
+    operand: &'a [u8; 320],
+    modulus: &'a [u32; 320],
+    negated: &'a [bool; 320],
+    ranges: &'a [usize; 320],
+    low: &'a [u32; 2048],
+    high: &'a [u32; 2048],
+    relations: &'a [usize; 40],
+    clauses: &'a [usize; 6],
+    j: usize,
+    x: Number,
+) -> bool
+    requires { ⌜ j < 6 ⌝ }
+    ensures { λ r. ⌜ r ≡ metAt (table (now (operand .entry)) (now (modulus .entry)) (now (negated .entry)) (now (ranges .entry)) (now (low .entry)) (now (high .entry))) (now (relations .entry)) (now (clauses .entry)) x j ⌝ }
+{
+    meaning::condition_holds(
+        operand,
+        modulus,
+        negated,
+        ranges,
+        low,
+        high,
+        relations,
+        clauses_start(clauses, j),
+        clauses_stop(clauses, j),
+        x,
+    )
+}
+
 // The bits of the first `count` rules.
 pub fn met_mask<'a>(
     operand: &'a [u8; 320],
@@ -58,7 +88,7 @@ pub fn met_mask<'a>(
     let mut bit: u32 = 0;
     let mut j = 0;
     while j < rules {
-        let met = meaning::condition_holds(
+        let met = met_at(
             operand,
             modulus,
             negated,
@@ -66,8 +96,8 @@ pub fn met_mask<'a>(
             low,
             high,
             relations,
-            clauses_start(clauses, j),
-            clauses_stop(clauses, j),
+            clauses,
+            j,
             x,
         );
         mask = with_bit(mask, bit, met);

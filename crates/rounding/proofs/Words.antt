@@ -1,32 +1,18 @@
 -- Laws of the word engine: a power of ten that the exact value and the step share makes no difference, and what is left has room in a machine word.
 use mathlib.Core.Path.{_≡_, sym, ap, _∙_}
 use mathlib.Core.Bool.{true}
-use mathlib.Core.List.{List, [], _∷_}
-use Prim.Native.Nat.{ℕ, zero, suc, _+_, _*_, _-_, _/_, _%_, _^_, _≤_, _<_, min}
+use Prim.Native.Nat.{ℕ, _+_, _*_, _-_, _/_, _%_, _^_, _≤_, _<_, min}
 use native.Mathlib.Omega.{arith}
-use native.Mathlib.Nat.{div-add-mod', mod-lt, div-zero, mul-le-mul, mul-le-mul-left, mul-le-mul-right, le-div-iff-mul-le, pow-succ'}
+use native.Mathlib.Nat.{div-add-mod', mod-lt, div-zero, mul-le-mul, mul-le-mul-left, mul-le-mul-right, le-div-iff-mul-le}
 use lib.Arith.{digits-div, digits-mod}
 use lib.Pow.{pow-add}
 use lib.Dec.{ltb, leb}
-use lib.ListN.{getD}
 use borrow.Author.Tests.{ltb-true, leb-true}
 use Rattle.decimal.proofs.Choices.{tested, not-both, ltb-same}
 use Rattle.decimal.proofs.Values.{power-mono, power-pos}
 use Rattle.rounding.specs.Nearest.{up, stepsOf, unitsOf}
 use Rattle.rounding.specs.Limits.{maxPlaces, maxFactor, maxWord, inWord}
 use Rattle.rounding.proofs.Nearest.{by-le}
-
--- ---- the table of powers
-
--- n numbers, each ten times the one before, from p on
-abbrev pub powers : ℕ → ℕ → List ℕ
-powers zero p = []
-powers (suc n) p = p ∷ powers n (10 * p)
-
-pub powers-at : (n p k : ℕ) → k < n → getD (powers n p) k 0 ≡ p * 10 ^ k
-powers-at zero p k h = absurd (omega arith)
-powers-at (suc n) p zero h = omega arith
-powers-at (suc n) p (suc k) h = powers-at n (10 * p) k (omega arith) ∙ rw (pow-succ' 10 k) (omega arith)
 
 -- ---- what the exact value and the step share
 

@@ -7,6 +7,7 @@ use lib.Dec.{eqb}
 use lib.ListN.{length}
 use Rattle.decimal.specs.Digits.{begins, run}
 use Rattle.decimal.proofs.Choices.{never}
+use Rattle.answer.specs.declared.Keyword.the-variants.{Other}
 use Rattle.answer.specs.declared.Refusal.{Refusal}
 use Rattle.number.specs.Limits.{maxBytes}
 use Rattle.number.specs.Grammar.{signText}
@@ -20,12 +21,14 @@ use Rattle.plural.proofs.Chosen.{sign-no-word}
 use Rattle.rules.specs.Syntax.{Rule}
 use Rattle.grammar.specs.Reader.{PackAnswer, readPack}
 use Rattle.grammar.specs.Reader.PackAnswer.{Rules, Refused as PackRefused}
+use Rattle.bare.specs.Bare.{isBare, bareRule}
+use Rattle.bare.proofs.Bares.{bare-read}
 use Rattle.pack.specs.Answer.{verdictOf, rulesOf}
 use Rattle.pack.specs.declared.Verdict.{Verdict}
 use Rattle.pack.specs.declared.Verdict.the-variants.{Good, Refused as Bad}
 use Rattle.plural.specs.Select.{selection}
 use Rattle.plural.specs.declared.Selection.{Selection}
-use Rattle.plural.specs.declared.Selection.the-variants.{Refused}
+use Rattle.plural.specs.declared.Selection.the-variants.{Word, Refused}
 use Rattle.select.specs.Select.{selectNumber, selectRules, selectOf}
 
 -- the verdict and the rules that the reader of packs returns decide as its answer does
@@ -40,13 +43,25 @@ bad (PackRefused g) v f x e b =
     ap Refused same
 
 -- where the pack is read: the number's word, or its refusal
-pub word : (a : PackAnswer) (v : Verdict) (rules : List Rule) (x : Number) (n r : Reading) → v ≡ verdictOf a → v ≡ Good → rules ≡ rulesOf a → n ≡ r → n ≡ Is x
+pub word : (a : PackAnswer) (v : Verdict) (rules : List Rule) (x : Number) (r : Reading) → v ≡ verdictOf a → v ≡ Good → rules ≡ rulesOf a → r ≡ Is x
     → selection rules x ≡ selectRules a r
-word a v rules x n r e g h m k = ap (selectNumber rules) (sym k ∙ m) ∙ good a v rules r e g h
+word a v rules x r e g h k = ap (selectNumber rules) (sym k) ∙ good a v rules r e g h
 
-pub unread : (a : PackAnswer) (v : Verdict) (rules : List Rule) (f : Refusal) (n r : Reading) → v ≡ verdictOf a → v ≡ Good → rules ≡ rulesOf a → n ≡ r
-    → n ≡ NumberRefused f → Refused f ≡ selectRules a r
-unread a v rules f n r e g h m k = ap (selectNumber rules) (sym k ∙ m) ∙ good a v rules r e g h
+pub unread : (a : PackAnswer) (v : Verdict) (rules : List Rule) (f : Refusal) (r : Reading) → v ≡ verdictOf a → v ≡ Good → rules ≡ rulesOf a
+    → r ≡ NumberRefused f → Refused f ≡ selectRules a r
+unread a v rules f r e g h k = ap (selectNumber rules) (sym k) ∙ good a v rules r e g h
+
+-- ---- the pack that is `other:` alone
+
+-- it gives every number `other`, and what is no number its refusal
+pub bare-word : (x : Number) (r : Reading) → r ≡ Is x → Word Other ≡ selectNumber (bareRule ∷ []) r
+bare-word x r e = sym (ap (selectNumber (bareRule ∷ [])) e)
+
+pub bare-unread : (f : Refusal) (r : Reading) → r ≡ NumberRefused f → Refused f ≡ selectNumber (bareRule ∷ []) r
+bare-unread f r e = sym (ap (selectNumber (bareRule ∷ [])) e)
+
+pub by-bare : (pack : List ℕ) (r : Reading) → isBare pack ≡ true → selectNumber (bareRule ∷ []) r ≡ selectRules (readPack pack) r
+by-bare pack r e = sym (ap (λ (a : PackAnswer). selectRules a r) (bare-read pack e))
 
 -- ---- the order of the tests
 

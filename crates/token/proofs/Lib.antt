@@ -1,2 +1,3 @@
 pub mod Spellings
 pub mod Pieces
+pub mod Skips

@@ -1,7 +1,8 @@
 -- The tokens of a pack's text, each with its place. A token is its bytes.
+use mathlib.Core.Path.{_≡_}
 use mathlib.Core.Bool.{Bool, false}
 use mathlib.Core.List.{List, [], _∷_}
-use Prim.Native.Nat.{ℕ, zero, suc, _+_}
+use Prim.Native.Nat.{ℕ, zero, suc, _+_, _≤_, max}
 use lib.Dec.{ltb, eqb}
 use lib.ListN.{length, getD, take, drop}
 use Rattle.decimal.specs.Choice.{if_then_else_}
@@ -65,3 +66,10 @@ tokensFor (suc k) at s =
 -- every piece has a byte at least: a text has at most as many pieces as bytes
 abbrev pub tokens : ℕ → List ℕ → List Token
 tokens at s = tokensFor (length s) at s
+
+-- the place behind the white space that stands at a place
+pub record Skipped (s : List ℕ) (from at : ℕ) : Type 0 where
+  pub onward : from ≤ at
+  pub bound : at ≤ max (length s) from
+  pub none : whiteLen (drop at s) ≡ 0
+  pub same : tokens at (drop at s) ≡ tokens from (drop from s)

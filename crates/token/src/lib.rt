@@ -9,7 +9,7 @@ ghost use lib.Dec.{eqb, ltb};
 ghost use lib.ListN.{length, getD, drop};
 ghost use Rattle.decimal.specs.Choice.{if_then_else_};
 ghost use Rattle.token.specs.Spelling.{same, starts, lengthOf};
-ghost use Rattle.token.specs.Token.{whites, whiteLen, isLetter, letters, tokenLen, pieceLen};
+ghost use Rattle.token.specs.Token.{whites, whiteLen, isLetter, letters, tokenLen, pieceLen, Skipped};
 use decimal::cut::after;
 use decimal::scan::digit_run;
 use decimal::scan::is_digit;
@@ -148,4 +148,19 @@ pub fn piece_len(s: &[u8], at: usize, white: usize) -> usize
         return white;
     }
     token_len(after(s, at))
+}
+
+// Where the white space ends that stands at a place.
+pub fn skip_white(s: &[u8], from: usize) -> usize
+    ensures { λ r. ⌜ Skipped (now (s .entry)) from r ⌝ }
+{
+    let mut at = from;
+    while at < s.len() {
+        let n = white_len(s, at);
+        if n == 0 {
+            return at;
+        }
+        at += n;
+    }
+    at
 }

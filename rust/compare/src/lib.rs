@@ -1,6 +1,7 @@
 //! The proved library and the ordinary Rust side by side: jobs done by both, inputs for them, and the published packs.
 
 pub mod generate;
+pub mod made_up;
 mod random;
 pub mod sides;
 

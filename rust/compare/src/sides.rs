@@ -116,6 +116,16 @@ pub fn check(pack: &[u8]) -> Answer {
     expected
 }
 
+/// Stops if the library's number and figures for a pack are not those of the ordinary Rust.
+pub fn same_check(pack: &[u8], number: u32, figures: &Figures) {
+    let (expected, given) = match plain::check(pack) {
+        Ok(()) => (0, Vec::new()),
+        Err(refusal) => (refusal.number(), refusal.figures()),
+    };
+    let answer = (number, &figures[1..=given.len()]);
+    assert_eq!((expected, &given[..]), answer, "{}", pack.escape_ascii());
+}
+
 /// A run of bytes in which a byte that moved would show.
 fn filled(length: usize) -> Vec<u8> {
     (0..length).map(|place| (place * 37 + 11) as u8).collect()

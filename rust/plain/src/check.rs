@@ -1,17 +1,18 @@
 //! The check of a pack: whether two of its rules share an admitted number, and the least they share.
 //!
 //! A clause of one rule is joined with a clause of the other. Once e, v and w are fixed, the relations on i and those on the fraction part:
-//! f is t with v - w zeros behind it, and n is i where f is 0 and no whole number elsewhere. So each search is for the least value in several
-//! sets of whole numbers, each of which repeats with its modulus or is constant past its largest bound.
+//! f is t with v - w zeros behind it, and n is i where f is 0 and no whole number elsewhere. So each search is for the least whole number that
+//! relations on one variable allow.
 
 use crate::number::{MAX_E, MAX_V};
+use crate::segments::{Levels, Scratch, bits};
+use crate::table::Table;
 use crate::{Clause, Operand, Pack, Refusal, Relation, Rule, read_pack};
 use std::cell::OnceCell;
+use std::sync::LazyLock;
 
-/// Largest integer part of an admitted number.
-const MAX_I: u64 = 999_999_999_999_999;
-/// Upper end of a range without one.
-const NO_END: u64 = u64::MAX;
+/// Most zeros behind the last digit of a fraction.
+const MAX_ZEROS: usize = MAX_V as usize - 1;
 
 /// Checks a pack; refusals 20 to 27.
 pub fn check(pack: &[u8]) -> Result<(), Refusal> {
@@ -20,10 +21,16 @@ pub fn check(pack: &[u8]) -> Result<(), Refusal> {
 
 /// Checks a parsed pack: refusal 27 with the first pair of rules that share an admitted number, and the least such number.
 pub fn check_pack(pack: &Pack) -> Result<(), Refusal> {
-    let conditions: Vec<Vec<Demands>> = pack.rules.iter().map(demands_of_rule).collect();
+    let mut scratch = Scratch::default();
+    let conditions: Vec<Vec<Demands>> = pack
+        .rules
+        .iter()
+        .map(|rule| demands_of_rule(rule, &mut scratch))
+        .collect();
+    let mut table = Table::default();
     for (first, one) in conditions.iter().enumerate() {
         for (second, other) in conditions.iter().enumerate().skip(first + 1) {
-            if let Some(Least { e, v, i, f }) = least_of_rules(one, other) {
+            if let Some(Least { e, v, i, f }) = least_of_rules(one, other, &mut table) {
                 return Err(Refusal::Clash {
                     first: first + 1,
                     second: second + 1,
@@ -47,14 +54,22 @@ struct Least {
     f: u64,
 }
 
-fn least_of_rules(one: &[Demands], other: &[Demands]) -> Option<Least> {
-    one.iter()
-        .flat_map(|a| other.iter().filter_map(|b| Joined::new(a, b)?.least()))
-        .min()
+fn least_of_rules(one: &[Demands], other: &[Demands], table: &mut Table) -> Option<Least> {
+    let mut least: Option<Least> = None;
+    for a in one {
+        for b in other {
+            let found = Joined::new(a, b).and_then(|joined| joined.least(table));
+            least = least.into_iter().chain(found).min();
+        }
+    }
+    least
 }
 
-fn demands_of_rule(rule: &Rule) -> Vec<Demands> {
-    rule.clauses.iter().map(Demands::new).collect()
+fn demands_of_rule(rule: &Rule, scratch: &mut Scratch) -> Vec<Demands> {
+    rule.clauses
+        .iter()
+        .map(|clause| Demands::new(clause, scratch))
+        .collect()
 }
 
 /// What one clause asks of each operand.
@@ -63,284 +78,172 @@ struct Demands {
     e: u32,
     v: u32,
     w: u32,
-    i: Vec<Set>,
-    n: Vec<Set>,
-    f: Vec<Set>,
-    t: Vec<Set>,
+    i: Levels,
+    n: Levels,
+    t: Levels,
+    f: Fractions,
+    /// Whether f and t may be 0.
+    zero: bool,
     /// Whether n has to be a whole number.
     whole: bool,
 }
 
 impl Demands {
-    fn new(clause: &Clause) -> Self {
+    fn new(clause: &Clause, scratch: &mut Scratch) -> Self {
         let of = |operand| {
             clause
                 .iter()
                 .filter(move |relation| relation.operand == operand)
         };
-        let sets = |operand| of(operand).map(Set::new).collect();
-        let bits = |operand, most| {
-            (0..=most)
-                .filter(|&value| of(operand).all(|relation| relation.admits(value)))
-                .fold(0, |bits, value| bits | 1 << value)
+        let values = |operand, most| {
+            of(operand).fold((2u32 << most) - 1, |values, relation| {
+                values & values_of(relation, most)
+            })
         };
         Demands {
-            e: bits(Operand::E, MAX_E.into()),
-            v: bits(Operand::V, MAX_V.into()),
-            w: bits(Operand::W, MAX_V.into()),
-            i: sets(Operand::I),
-            n: sets(Operand::N),
-            f: sets(Operand::F),
-            t: sets(Operand::T),
+            e: values(Operand::E, MAX_E),
+            v: values(Operand::V, MAX_V),
+            w: values(Operand::W, MAX_V),
+            i: Levels::new(clause, Operand::I, scratch),
+            n: Levels::new(clause, Operand::N, scratch),
+            t: Levels::new(clause, Operand::T, scratch),
+            f: Fractions::new(Levels::new(clause, Operand::F, scratch)),
+            zero: of(Operand::F)
+                .chain(of(Operand::T))
+                .all(|relation| relation.admits(0)),
             whole: of(Operand::N).any(|relation| !relation.negated),
         }
     }
 }
 
+/// The values up to `most` of which a relation holds, as bits.
+fn values_of(relation: &Relation, most: u32) -> u32 {
+    (0..=most)
+        .filter(|&value| relation.admits(value.into()))
+        .fold(0, |values, value| values | 1 << value)
+}
+
+/// What relations on f allow, as relations on t with zeros behind it.
+struct Fractions {
+    without_zeros: Levels,
+    with_zeros: [OnceCell<Box<Levels>>; MAX_ZEROS],
+}
+
+impl Fractions {
+    fn new(levels: Levels) -> Self {
+        Fractions {
+            without_zeros: levels,
+            with_zeros: Default::default(),
+        }
+    }
+
+    fn at(&self, zeros: usize) -> &Levels {
+        match zeros {
+            0 => &self.without_zeros,
+            _ => self.with_zeros[zeros - 1].get_or_init(|| self.at(zeros - 1).of_tenths().into()),
+        }
+    }
+
+    fn asked(&self) -> bool {
+        self.without_zeros.asked() != 0
+    }
+}
+
+static LAST_DIGIT: LazyLock<Levels> = LazyLock::new(Levels::last_digit);
+
 /// Two clauses at once.
 struct Joined<'a> {
+    a: &'a Demands,
+    b: &'a Demands,
     e: u32,
     v: u32,
     w: u32,
-    /// Sets for i, and for n where it is whole; by modulus, the smallest first.
-    i: Vec<&'a Set>,
-    i_and_n: Vec<&'a Set>,
-    f: Vec<&'a Set>,
-    t: Vec<&'a Set>,
-    whole: bool,
 }
 
 impl<'a> Joined<'a> {
-    /// `None` if the clauses plainly have no number in common.
+    /// `None` if the clauses have no e, v or w in common.
     fn new(a: &'a Demands, b: &'a Demands) -> Option<Self> {
         let (e, v, w) = (a.e & b.e, a.v & b.v, a.w & b.w);
-        if e == 0 || v == 0 || w == 0 {
-            return None;
+        (e != 0 && v != 0 && w != 0).then_some(Joined { a, b, e, v, w })
+    }
+
+    /// The least number of which both clauses hold.
+    ///
+    /// A larger exponent only takes integer parts away, so the least decides. Where n is not asked, the integer part is the same with a fraction as
+    /// without.
+    fn least(&self, table: &mut Table) -> Option<Least> {
+        let e = self.e.trailing_zeros();
+        let v = self.v.trailing_zeros();
+        let low = if e == 0 { 0 } else { 10u64.pow(e) };
+        let may_be_whole = self.may_be_whole();
+        let whole = may_be_whole
+            .then(|| self.least_whole(low, table))
+            .flatten()
+            .map(|i| Least { e, v, i, f: 0 });
+        if self.must_be_whole() || may_be_whole && !self.asks_n() {
+            return whole;
         }
-        let i = sorted(a.i.iter().chain(&b.i).collect());
-        if !agree(&i) {
-            return None;
+        let i = self.least_integer(low, table)?;
+        if whole.is_some_and(|whole| whole.i == i) {
+            return whole;
         }
-        Some(Joined {
-            e,
-            v,
-            w,
-            i_and_n: sorted(i.iter().copied().chain(&a.n).chain(&b.n).collect()),
-            i,
-            f: a.f.iter().chain(&b.f).collect(),
-            t: a.t.iter().chain(&b.t).collect(),
-            whole: a.whole || b.whole,
+        let mut found = [None; MAX_ZEROS + 1];
+        bits(self.v).map(|v| v as u32).find_map(|v| {
+            self.least_fraction(v, &mut found, table)
+                .map(|f| Least { e, v, i, f })
+                .or(whole.map(|whole| Least { v, ..whole }))
         })
     }
 
-    fn least(&self) -> Option<Least> {
-        let integral = self.admits_no_fraction() && agree(&self.i_and_n);
-        let fractions: [OnceCell<Option<u64>>; MAX_V as usize + 1] = Default::default();
-        let fraction = |v: u32| *fractions[v as usize].get_or_init(|| self.least_fraction(v));
-        if !integral && bits(self.v).all(|v| fraction(v).is_none()) {
-            return None;
-        }
-        bits(self.e).find_map(|e| {
-            let low = if e == 0 { 0 } else { 10u64.pow(e) };
-            let without = integral
-                .then(|| least_common(&self.i_and_n, low, MAX_I))
-                .flatten();
-            let with = least_common(&self.i, low, MAX_I);
-            bits(self.v).find_map(|v| {
-                let (i, f) = [without.map(|i| (i, 0)), with.zip(fraction(v))]
-                    .into_iter()
-                    .flatten()
-                    .min()?;
-                Some(Least { e, v, i, f })
-            })
-        })
+    fn asks_n(&self) -> bool {
+        self.a.n.asked() | self.b.n.asked() != 0
     }
 
-    /// Whether f, t and w may all be 0.
-    fn admits_no_fraction(&self) -> bool {
-        self.w & 1 != 0 && self.f.iter().chain(&self.t).all(|set| set.has(0))
+    fn may_be_whole(&self) -> bool {
+        self.w & 1 != 0 && self.a.zero && self.b.zero
     }
 
-    /// The least f above 0 with v digits, if there is one.
-    fn least_fraction(&self, v: u32) -> Option<u64> {
-        if self.whole {
-            return None;
+    fn must_be_whole(&self) -> bool {
+        self.a.whole || self.b.whole || self.v == 1 || self.w == 1
+    }
+
+    /// The least integer part from `low` on without a fraction.
+    fn least_whole(&self, low: u64, table: &mut Table) -> Option<u64> {
+        if !self.asks_n() {
+            return self.least_integer(low, table);
         }
+        table.least(&[&self.a.i, &self.b.i, &self.a.n, &self.b.n], low)
+    }
+
+    /// The least integer part from `low` on with a fraction.
+    fn least_integer(&self, low: u64, table: &mut Table) -> Option<u64> {
+        table.least(&[&self.a.i, &self.b.i], low)
+    }
+
+    /// The least f above 0 with v digits; `found` keeps the least t by the zeros behind it.
+    fn least_fraction(
+        &self,
+        v: u32,
+        found: &mut [Option<Option<u64>>],
+        table: &mut Table,
+    ) -> Option<u64> {
+        let asks_f = self.a.f.asked() || self.b.f.asked();
         bits(self.w)
+            .map(|w| w as u32)
             .filter(|w| (1..=v).contains(w))
-            .filter_map(|w| self.least_fraction_of_width(v, w))
+            .filter_map(|w| {
+                let zeros = v - w;
+                let of_t = if asks_f { zeros as usize } else { 0 };
+                let t = found[of_t].get_or_insert_with(|| self.least_t(of_t, table));
+                t.filter(|&t| t < 10u64.pow(w))
+                    .map(|t| t * 10u64.pow(zeros))
+            })
             .min()
     }
 
-    /// The least f above 0 with v digits of which the last v - w are zeros and the one before is not.
-    fn least_fraction_of_width(&self, v: u32, w: u32) -> Option<u64> {
-        let unit = 10u64.pow(v - w);
-        let last_digit = Set {
-            modulus: Some(10),
-            ranges: vec![(1, 9)],
-        };
-        let scaled: Vec<Set> = self.f.iter().map(|set| set.of_multiples(unit)).collect();
-        let sets = self.t.iter().copied().chain(&scaled).chain([&last_digit]);
-        let sets = sorted(sets.collect());
-        if !agree(&sets) {
-            return None;
-        }
-        let t = least_common(&sets, 1, 10u64.pow(w) - 1)?;
-        Some(t * unit)
+    /// The least t above 0 with so many zeros behind it.
+    fn least_t(&self, zeros: usize, table: &mut Table) -> Option<u64> {
+        let (f, g) = (self.a.f.at(zeros), self.b.f.at(zeros));
+        table.least(&[&self.a.t, &self.b.t, f, g, &LAST_DIGIT], 0)
     }
-}
-
-/// The places of the ones, lowest first.
-fn bits(mask: u32) -> impl Iterator<Item = u32> {
-    (0..u32::BITS).filter(move |place| mask >> place & 1 != 0)
-}
-
-/// A set of whole numbers: those whose value, or remainder by the modulus, lies in a range.
-struct Set {
-    modulus: Option<u64>,
-    /// Closed ranges in ascending order, apart from each other and below the modulus.
-    ranges: Vec<(u64, u64)>,
-}
-
-impl Set {
-    /// The values for which a relation holds.
-    fn new(relation: &Relation) -> Self {
-        let modulus = relation.modulus.map(u64::from);
-        let last = modulus.map_or(NO_END, |modulus| modulus - 1);
-        let mut listed: Vec<(u64, u64)> = relation
-            .ranges
-            .iter()
-            .map(|range| (u64::from(*range.start()), u64::from(*range.end()).min(last)))
-            .filter(|&(start, _)| start <= last)
-            .collect();
-        listed.sort_unstable();
-        let ranges = if relation.negated {
-            gaps(&listed, last)
-        } else {
-            merged(&listed)
-        };
-        Set { modulus, ranges }
-    }
-
-    fn has(&self, value: u64) -> bool {
-        self.at_or_after(value) == Some(value)
-    }
-
-    /// The least member that is not below `from`.
-    fn at_or_after(&self, from: u64) -> Option<u64> {
-        let rest = self.modulus.map_or(from, |modulus| from % modulus);
-        let later = self.ranges.iter().find(|&&(_, end)| end >= rest);
-        match (later, self.modulus) {
-            (Some(&(start, _)), _) => Some(from - rest + start.max(rest)),
-            (None, None) => None,
-            (None, Some(modulus)) => {
-                let &(start, _) = self.ranges.first()?;
-                Some(from - rest + modulus + start)
-            }
-        }
-    }
-
-    /// The numbers whose product with `unit`, a power of ten, is in this set.
-    fn of_multiples(&self, unit: u64) -> Set {
-        if let Some(modulus) = self.modulus
-            && modulus <= unit
-        {
-            // Every product is a multiple of the modulus.
-            let ranges = if self.has(0) {
-                vec![(0, NO_END)]
-            } else {
-                vec![]
-            };
-            return Set {
-                modulus: None,
-                ranges,
-            };
-        }
-        let ranges = self.ranges.iter().map(|&(start, end)| {
-            let end = if end == NO_END { NO_END } else { end / unit };
-            (start.div_ceil(unit), end)
-        });
-        Set {
-            modulus: self.modulus.map(|modulus| modulus / unit),
-            ranges: ranges.filter(|(start, end)| start <= end).collect(),
-        }
-    }
-
-    /// The value from which on a set without modulus is constant.
-    fn steady_from(&self) -> u64 {
-        match (self.modulus, self.ranges.last()) {
-            (None, Some(&(start, NO_END))) => start,
-            (None, Some(&(_, end))) => end + 1,
-            _ => 0,
-        }
-    }
-}
-
-/// Ascending ranges with those joined that touch or overlap.
-fn merged(listed: &[(u64, u64)]) -> Vec<(u64, u64)> {
-    let mut ranges: Vec<(u64, u64)> = Vec::with_capacity(listed.len());
-    for &(start, end) in listed {
-        match ranges.last_mut() {
-            Some(last) if start <= last.1 + 1 => last.1 = last.1.max(end),
-            _ => ranges.push((start, end)),
-        }
-    }
-    ranges
-}
-
-/// The ranges between ascending ranges, up to and with `last`.
-fn gaps(listed: &[(u64, u64)], last: u64) -> Vec<(u64, u64)> {
-    let mut ranges = Vec::with_capacity(listed.len() + 1);
-    let mut next = 0;
-    for &(start, end) in listed {
-        if start > next {
-            ranges.push((next, start - 1));
-        }
-        next = next.max(end + 1);
-    }
-    if next <= last {
-        ranges.push((next, last));
-    }
-    ranges
-}
-
-/// Sets by modulus, the smallest first and those without one last.
-fn sorted(mut sets: Vec<&Set>) -> Vec<&Set> {
-    sets.sort_by_key(|set| set.modulus.unwrap_or(NO_END));
-    sets
-}
-
-/// Whether some remainder is in all sets that have a modulus.
-///
-/// A conflict is found within the period of its largest modulus, so that no search runs through a long period whose short ones never meet.
-fn agree(sets: &[&Set]) -> bool {
-    (0..sets.len()).all(|last| match sets[last].modulus {
-        Some(modulus) => leap(&sets[..=last], 0, modulus - 1).is_some(),
-        None => true,
-    })
-}
-
-/// The least number from `low` to `high` that is in all sets.
-///
-/// All moduli are powers of ten, so past the bounds of the sets without modulus one period of the largest shows every case.
-fn least_common(sets: &[&Set], low: u64, high: u64) -> Option<u64> {
-    let steady = sets.iter().map(|set| set.steady_from()).max().unwrap_or(0);
-    let period = sets.iter().filter_map(|set| set.modulus).max().unwrap_or(1);
-    leap(sets, low, high.min(low.max(steady) + period))
-}
-
-/// Goes from `low` to the next member of each set in turn until all sets have the same.
-fn leap(sets: &[&Set], low: u64, high: u64) -> Option<u64> {
-    let mut at = low;
-    while at <= high {
-        let next = sets
-            .iter()
-            .rev()
-            .try_fold(at, |at, set| set.at_or_after(at))?;
-        if next == at {
-            return Some(at);
-        }
-        at = next;
-    }
-    None
 }

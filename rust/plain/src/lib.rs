@@ -23,8 +23,10 @@ mod pack;
 mod pattern;
 mod print;
 mod refusal;
+mod segments;
 mod select;
 mod symbols;
+mod table;
 
 pub use check::{check, check_pack};
 pub use number::{Number, read_number};

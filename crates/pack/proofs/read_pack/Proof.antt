@@ -23,7 +23,7 @@ start-requires : tie.Need-start-requires Inv-loop μ-loop
 start-requires c κs = search needs
 
 skip-white-requires : tie.Need-skip-white-requires Inv-loop μ-loop
-skip-white-requires c κs = within-le (c .before .before .before .before .args .text .now) _ (c .before .before .within .ensures)
+skip-white-requires c κs = search needs
 
 loop-holds : tie.Need-loop-holds Inv-loop μ-loop
 loop-holds c = stands-first _ _ _ _ _ (c .before .start .ensures) (c .skip-white .ensures)
@@ -77,7 +77,7 @@ add-skip-white c =
     omega (arith, l, z)
 
 skip-white-requires-2 : tie.Need-skip-white-requires-2 Inv-loop μ-loop
-skip-white-requires-2 c κs = within-le (c .before .before .before .before .before .before .before .before .before .before .before .before .before .before .before .before .before .before .before .before .before .before .before .before .before .before .before .before .before .before .before .before .before .before .before .before .before .before .before .args .text .now) _ (c .before .before .before .before .before .before .before .before .before .before .before .before .before .before .before .before .before .before .before .before .before .before .before .before .before .before .before .before .before .before .before .before .before .before .before .before .before .within .ensures)
+skip-white-requires-2 c κs = search needs
 
 loop-less : tie.Need-loop-less Inv-loop μ-loop
 loop-less c =

@@ -4,7 +4,7 @@ use mathlib.Core.Path.{_≡_, _∙_}
 use Prim.Native.Nat.{_^_}
 use lib.ListN.{getD}
 use Rattle.decimal.proofs.Values.{power-mono}
-use Rattle.rounding.proofs.Words.{powers, powers-at}
+use Rattle.decimal.proofs.Powers.{powers, powers-at}
 use borrow.Author.Needs.{needs}
 use Rattle.rounding.proofs.ten_to.Statement.{statement}
 use Rattle.rounding.proofs.ten_to.Tie as tie

@@ -1,10 +1,8 @@
--- `select::select` answers `selectOf`: the pack's refusal, the number's, or what the rules give the number.
-use mathlib.Core.Path.{_∙_}
+-- `select::select` answers `selectOf`: by `by-bare` where the pack is `other:` alone, else by reading it.
+use mathlib.Core.Path.{sym, ap, _∙_}
 use Rattle.grammar.specs.Reader.{readPack}
-use Rattle.number.specs.Reading.{readNumber}
-use Rattle.rules.specs.Held.{heldRules}
-use Rattle.select.proofs.Order.{word, unread, bad}
-use Rattle.pack.proofs.Sims.{verdict-told}
+use Rattle.select.specs.Select.{selectRules}
+use Rattle.select.proofs.Order.{by-bare}
 use borrow.Author.Needs.{needs}
 use Rattle.select.proofs.select.Statement.{statement}
 use Rattle.select.proofs.select.Tie as tie
@@ -12,62 +10,34 @@ use Rattle.select.proofs.select.Tie as tie
 read-number-requires : tie.Need-read-number-requires
 read-number-requires c κs = search needs
 
-read-pack-requires : tie.Need-read-pack-requires
-read-pack-requires c κs = search needs
+is-bare-requires : tie.Need-is-bare-requires
+is-bare-requires c κs = search needs
 
-verdict-of-requires : tie.Need-verdict-of-requires
-verdict-of-requires c κs = search needs
-
-enum-told : tie.Need-enum-told
-enum-told c = search needs
-
-enum-known-reading : tie.Need-enum-known-reading
-enum-known-reading c = search needs
-
-select-held-requires : tie.Need-select-held-requires
-select-held-requires c κs = search needs
-
-enum-known-reading-2 : tie.Need-enum-known-reading-2
-enum-known-reading-2 c = search needs
-
-enum-known-verdict : tie.Need-enum-known-verdict
-enum-known-verdict c = search needs
+select-bare-requires : tie.Need-select-bare-requires
+select-bare-requires c κs = search needs
 
 returns : tie.Need-returns
 returns c =
-    let a = c .before .before .before .before .before .before .before .before .before .before .before .before .before .before .before .before .before .before .before .before .before .args in
-    let p = c .before .before .before .before .before .before .before .before .before .before .before .before .before .before .before .before .before .read-pack in
-    let n = c .before .before .before .before .before .before .before .before .before .before .before .before .before .before .before .before .before .before .read-number in
-    let v = c .before .before .before .before .before .before .before .before .before .before .before .before .before .before .before .before .verdict-of in
-    c .select-held .ensures ∙ word (readPack (a .pack .now)) (v .result) (heldRules (p .result)) _ (n .result) (readNumber (a .number .now)) (v .ensures ∙ verdict-told (a .pack .now) (p .result) (p .ensures)) (c .before .before .before .before .before .before .before .before .before .before .before .before .before .before .enum-told .given .1) (p .ensures .rules) (n .ensures) (c .before .before .before .before .before .before .before .before .before .before .before .before .reading .given .1)
+    let pack = c .before .before .before .before .before .before .args .pack .now in
+    let n = c .before .before .before .read-number in
+    c .select-bare .ensures ∙ by-bare pack (n .result) (sym (c .before .before .is-bare .ensures) ∙ c .before .if1 .taken)
+    ∙ ap (selectRules (readPack pack)) (n .ensures)
+
+select-read-requires : tie.Need-select-read-requires
+select-read-requires c κs = search needs
 
 returns-2 : tie.Need-returns-2
 returns-2 c =
-    let a = c .before .before .before .before .before .before .before .before .before .before .args in
-    let p = c .before .before .before .before .before .before .read-pack in
-    let n = c .before .before .before .before .before .before .before .read-number in
-    let v = c .before .before .before .before .before .verdict-of in
-    unread (readPack (a .pack .now)) (v .result) (heldRules (p .result)) _ (n .result) (readNumber (a .number .now)) (v .ensures ∙ verdict-told (a .pack .now) (p .result) (p .ensures)) (c .before .before .before .enum-told .given .1) (p .ensures .rules) (n .ensures) (c .before .reading2 .given .1)
-
-returns-3 : tie.Need-returns-3
-returns-3 c =
-    let a = c .before .before .before .before .before .before .before .before .args in
-    let p = c .before .before .before .before .read-pack in
-    let v = c .before .before .before .verdict-of in
-    bad (readPack (a .pack .now)) (v .result) _ (readNumber (a .number .now)) (v .ensures ∙ verdict-told (a .pack .now) (p .result) (p .ensures)) (c .before .verdict .given .1)
+    let pack = c .before .before .before .before .before .before .args .pack .now in
+    c .select-read .ensures ∙ ap (selectRules (readPack pack)) (c .before .before .before .read-number .ensures)
 
 pub select-spec : {M : Type 1} → statement M
 select-spec =
     tie.close
     (tie.spec
     read-number-requires
-    read-pack-requires
-    verdict-of-requires
-    enum-told
-    enum-known-reading
-    select-held-requires
-    enum-known-reading-2
-    enum-known-verdict
+    is-bare-requires
+    select-bare-requires
     returns
-    returns-2
-    returns-3)
+    select-read-requires
+    returns-2)

@@ -1,6 +1,6 @@
 -- `clash::joined::clauses_start` gives the end of the part before, or 0.
 use mathlib.Core.Path.{refl}
-use Rattle.clash_laws.proofs.Hopping.{start-none, start-some}
+use Rattle.clash_laws.proofs.Searched.{start-none, start-some}
 use borrow.Author.Needs.{needs}
 use Rattle.clash.proofs.joined.clauses_start.Statement.{statement}
 use Rattle.clash.proofs.joined.clauses_start.Tie as tie

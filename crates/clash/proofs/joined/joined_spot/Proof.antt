@@ -1,6 +1,10 @@
--- `clash::joined::joined_spot` is that of the two stretches.
+-- `clash::joined::joined_spot` is that of the two stretches, with bounds that every v has.
+use mathlib.Core.Path.{refl}
+use mathlib.Core.List.{_++_}
 use native.Mathlib.Omega.{arith}
-use Rattle.rules.specs.Stretch.{table}
+use Rattle.rules.specs.Stretch.{table, relationsIn}
+use Rattle.clash_laws.proofs.Bounding.{unbounded}
+use Rattle.clash_laws.proofs.Flooring.{under-pair}
 use Rattle.clash_laws.proofs.Pairing.{joined-is}
 use borrow.Author.Needs.{needs}
 use Rattle.clash.proofs.joined.joined_spot.Statement.{statement}
@@ -18,16 +22,39 @@ relations-start-requires-2 c κs = search needs
 relations-stop-requires-2 : tie.Need-relations-stop-requires-2
 relations-stop-requires-2 c κs = search needs
 
-clause-spot-requires : tie.Need-clause-spot-requires
-clause-spot-requires c κs = (omega (arith, c .before .before .relations-stop .ensures), omega (arith, c .relations-stop2 .ensures))
+cast-t21 : tie.Need-cast-t21
+cast-t21 c = search needs
+
+pair-floors-requires : tie.Need-pair-floors-requires
+pair-floors-requires c κs = search needs
+
+least-admitted-requires : tie.Need-least-admitted-requires
+least-admitted-requires c κs =
+    let a = c .before .before .before .before .before .args in
+    let p = c .before .before .before .before .before .pre in
+    let T = table (a .operand .now) (a .modulus .now) (a .negated .now) (a .ranges .now) (a .low .now) (a .high .now) in
+    let from = c .before .before .before .before .relations-start in
+    let to = c .before .before .before .relations-stop in
+    let start = c .before .before .relations-start2 in
+    let stop = c .before .relations-stop2 in
+    let l = c .pair-floors in (
+      omega (arith, to .ensures),
+      omega (arith, stop .ensures),
+      under-pair T (a .relations .now) (a .whole .now) (a .part .now) (a .tail .now) (l .result) (from .result) (to .result) (start .result) (stop .result) (a .k) (a .l) (from .ensures) (to .ensures) (start .ensures) (stop .ensures)
+          (p .2) (p .0) (p .1) (l .ensures .0) (l .ensures .1) (l .ensures .2),
+    )
 
 returns : tie.Need-returns
 returns c =
-    let a = c .before .before .before .before .before .args in
-    let T = table (a .operand .now) (a .modulus .now) (a .negated .now) (a .ranges .now) (a .low .now) (a .high .now) in (
-      joined-is T (a .relations .now) _ (c .before .before .before .before .relations-start .result) (c .before .before .before .relations-stop .result) (c .before .before .relations-start2 .result) (c .before .relations-stop2 .result) (a .k) (a .l)
-          (c .before .before .before .before .relations-start .ensures) (c .before .before .before .relations-stop .ensures) (c .before .before .relations-start2 .ensures) (c .before .relations-stop2 .ensures) (c .clause-spot .ensures .0),
-      c .clause-spot .ensures .1,
+    let a = c .before .before .before .before .before .before .args in
+    let T = table (a .operand .now) (a .modulus .now) (a .negated .now) (a .ranges .now) (a .low .now) (a .high .now) in
+    let from = c .before .before .before .before .before .relations-start in
+    let to = c .before .before .before .before .relations-stop in
+    let start = c .before .before .before .relations-start2 in
+    let stop = c .before .before .relations-stop2 in (
+      joined-is T (a .relations .now) _ (from .result) (to .result) (start .result) (stop .result) (a .k) (a .l) (from .ensures) (to .ensures) (start .ensures) (stop .ensures)
+          (unbounded (record { least = record { 0 = 0 }; most = record { 0 = 9 } }) refl refl (relationsIn T (from .result) (to .result) ++ relationsIn T (start .result) (stop .result)) _ (c .least-admitted .ensures .0)),
+      c .least-admitted .ensures .1,
     )
 
 pub joined-spot-spec : {M : Type 1} → statement M
@@ -38,5 +65,7 @@ joined-spot-spec =
     relations-stop-requires
     relations-start-requires-2
     relations-stop-requires-2
-    clause-spot-requires
+    cast-t21
+    pair-floors-requires
+    least-admitted-requires
     returns)

@@ -19,7 +19,7 @@ clauses-stop-requires-2 : tie.Need-clauses-stop-requires-2
 clauses-stop-requires-2 c κs = search needs
 
 both-spot-requires : tie.Need-both-spot-requires
-both-spot-requires c κs = (omega (arith, c .before .before .clauses-stop .ensures), omega (arith, c .clauses-stop2 .ensures))
+both-spot-requires c κs = (omega (arith, c .before .before .clauses-stop .ensures), omega (arith, c .clauses-stop2 .ensures), c .before .before .before .before .pre .2)
 
 returns : tie.Need-returns
 returns c =

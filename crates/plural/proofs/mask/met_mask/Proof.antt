@@ -25,18 +25,12 @@ loop-holds c =
     let a = c .before .args in
     (omega arith, refl, mask-none (metAt (table (a .operand .now) (a .modulus .now) (a .negated .now) (a .ranges .now) (a .low .now) (a .high .now)) (a .relations .now) (a .clauses .now) (a .x)))
 
-clauses-start-requires : tie.Need-clauses-start-requires Inv-loop μ-loop
-clauses-start-requires c κs = search needs
-
-clauses-stop-requires : tie.Need-clauses-stop-requires Inv-loop μ-loop
-clauses-stop-requires c κs = search needs
-
-condition-holds-requires : tie.Need-condition-holds-requires Inv-loop μ-loop
-condition-holds-requires c κs = search needs
+met-at-requires : tie.Need-met-at-requires Inv-loop μ-loop
+met-at-requires c κs = search needs
 
 with-bit-requires : tie.Need-with-bit-requires Inv-loop μ-loop
 with-bit-requires c κs =
-    let l = c .before .before .before .before in
+    let l = c .before .before in
     let a = l .before .before .args in
     let g = metAt (table (a .operand .now) (a .modulus .now) (a .negated .now) (a .ranges .now) (a .low .now) (a .high .now)) (a .relations .now) (a .clauses .now) (a .x) in
     let h : l .loop .mask < 2 ^ l .loop .j = mask-fits g (l .loop .j) (l .loop .mask) (l .loop .inv .2) in
@@ -53,13 +47,12 @@ loop-less c = search needs
 
 loop-again : tie.Need-loop-again Inv-loop μ-loop
 loop-again c =
-    let l = c .before .before .before .before .before in
+    let l = c .before .before .before in
     let a = l .before .before .args in
     let T = table (a .operand .now) (a .modulus .now) (a .negated .now) (a .ranges .now) (a .low .now) (a .high .now) in
     let g = metAt T (a .relations .now) (a .clauses .now) (a .x) in
-    let q = c .before .condition-holds in
-    let e : q .result ≡ g (l .loop .j) = q .ensures ∙ rw (c .before .before .before .clauses-start .ensures, c .before .before .clauses-stop .ensures) in
-    (omega arith, omega arith, mask-more g (l .loop .j) (q .result) (l .loop .mask) (c .with-bit .result) (l .loop .inv .2) e (rw (l .loop .inv .1) at (c .with-bit .ensures)))
+    let q = c .before .met-at in
+    (omega arith, omega arith, mask-more g (l .loop .j) (q .result) (l .loop .mask) (c .with-bit .result) (l .loop .inv .2) (q .ensures) (rw (l .loop .inv .1) at (c .with-bit .ensures)))
 
 returns : tie.Need-returns Inv-loop μ-loop
 returns c =
@@ -77,9 +70,7 @@ met-mask-spec =
     μ-loop
     lesser-requires
     loop-holds
-    clauses-start-requires
-    clauses-stop-requires
-    condition-holds-requires
+    met-at-requires
     with-bit-requires
     add-bit
     add-j

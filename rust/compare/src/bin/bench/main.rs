@@ -1,18 +1,49 @@
 //! Times of the proved library and of the ordinary Rust on the same inputs in the same process.
 
+mod check;
 mod table;
 mod timer;
 
+use check::check;
 use compare::published_packs;
 use okwazibelu::raw;
 use plain::Refusal;
+use std::env;
 use std::hint::black_box;
+use std::process::ExitCode;
 use table::Table;
 use timer::times;
 
-fn main() {
+type Section = (&'static str, fn(&mut Table));
+
+const SECTIONS: [Section; 4] = [
+    ("read_number", read_number),
+    ("select", select),
+    ("check", check),
+    ("print", print),
+];
+
+/// Runs the section that the argument names, or all.
+fn main() -> ExitCode {
+    let wanted = env::args().nth(1);
+    let chosen = |name: &str| wanted.as_deref().is_none_or(|wanted| wanted == name);
+    if !SECTIONS.iter().any(|(name, _)| chosen(name)) {
+        let names = SECTIONS.map(|(name, _)| name).join(", ");
+        eprintln!("there is no such section; there are {names}");
+        return ExitCode::from(2);
+    }
+    head();
+    let mut table = Table::default();
+    for (_, run) in SECTIONS.iter().filter(|(name, _)| chosen(name)) {
+        run(&mut table);
+    }
+    table.summary();
+    ExitCode::SUCCESS
+}
+
+fn head() {
     println!(
-        "Times in nanoseconds a call: median of 31 runs of about 0.5 ms each, after warm-up; ratio is proved/plain."
+        "Times in nanoseconds a call: median of up to 31 runs of about 0.5 ms each, after warm-up; a call of over 1 s is timed once. Ratio is proved/plain."
     );
     println!(
         "The proved library is called through its C interface, the ordinary Rust through its own functions; both read their texts on every call."
@@ -20,12 +51,6 @@ fn main() {
     println!(
         "No buffer is cleared in the timed loops: figures and output area keep what the call before left in them."
     );
-    let mut table = Table::default();
-    read_number(&mut table);
-    select(&mut table);
-    check(&mut table);
-    print(&mut table);
-    table.summary();
 }
 
 /// How an answer is named in a row.
@@ -43,7 +68,7 @@ fn agree<T>(plain: &Result<T, Refusal>, proved: u32) {
 }
 
 fn read_number(table: &mut Table) {
-    table.job("read_number");
+    table.section("read_number", "read_number");
     for text in [
         "1",
         "-1234.567",
@@ -86,7 +111,7 @@ fn languages() -> Vec<(&'static str, &'static str)> {
 }
 
 fn select(table: &mut Table) {
-    table.job("select, from texts");
+    table.section("select", "select, from texts");
     for (language, pack) in languages() {
         for number in ["1", "23", "1234567.5", "1c6"] {
             let (pack, text) = (pack.as_bytes(), number.as_bytes());
@@ -101,78 +126,6 @@ fn select(table: &mut Table) {
             table.row(&format!("{language}, {number}  ({answer})"), times);
         }
     }
-}
-
-/// Packs whose rules first meet at a number of seven digits, or nowhere, which takes a search to find.
-const SEARCHED: [&str; 9] = [
-    "one: i != 0..999999; two: i % 10 = 7",
-    "one: i % 1000000 = 999999 and i != 0..999999; few: i % 10 = 9",
-    "one: n != 0..999999 and n % 1000000 != 0..499999; many: n % 1000 = 7",
-    "one: i != 0..999999 and i % 1000 = 123; two: i % 100000 = 45123; few: i % 1000000 = 645123",
-    "one: f % 1000000 = 123456 and i != 0..999999; two: t % 1000 = 456 and i % 1000000 = 7",
-    "one: i % 1000000 = 1..499999 and i % 10 = 3; two: i % 1000000 != 0 and i % 10 = 4",
-    "one: f % 1000000 = 1..3,5..7,9; two: t % 100 != 1..19 and t != 0",
-    "one: f % 10000 = 1; two: f != 0..999999",
-    "one: t % 10 = 0 and t % 1000000 != 1; two: t != 0",
-];
-
-fn check(table: &mut Table) {
-    table.job("check");
-    for kind in ["cardinal", "ordinal"] {
-        let packs: Vec<(&str, &[u8])> = published_packs()
-            .into_iter()
-            .filter(|(id, ..)| id.starts_with(kind))
-            .map(|(id, _, pack)| (id, pack.as_bytes()))
-            .collect();
-        let label = format!("all {} published {kind} packs, total", packs.len());
-        let texts: Vec<&[u8]> = packs.iter().map(|&(_, pack)| pack).collect();
-        table.row(&label, check_times(&texts));
-        let slowest = packs
-            .iter()
-            .max_by(|a, b| proved_check_time(a.1).total_cmp(&proved_check_time(b.1)))
-            .expect("there are packs");
-        table.row(
-            &format!("the slowest of them for the library, {}", slowest.0),
-            check_times(&[slowest.1]),
-        );
-    }
-    for pack in ["other:"].into_iter().chain(SEARCHED) {
-        let answer = plain::check(pack.as_bytes());
-        let answer = named(answer, |()| "passed".to_string());
-        table.row(
-            &format!("{answer}: {pack}"),
-            check_times(&[pack.as_bytes()]),
-        );
-    }
-}
-
-fn proved_check_time(pack: &[u8]) -> f64 {
-    let mut figures = [0; 8];
-    let start = std::time::Instant::now();
-    for _ in 0..20 {
-        black_box(raw::check(black_box(pack), &mut figures));
-    }
-    start.elapsed().as_nanos() as f64
-}
-
-/// Times of checking all the packs, one after the other.
-fn check_times(packs: &[&[u8]]) -> (f64, f64) {
-    let mut figures = [0; 8];
-    for pack in packs {
-        agree(&plain::check(pack), raw::check(pack, &mut figures));
-    }
-    times(
-        || {
-            for pack in packs {
-                black_box(plain::check(black_box(pack))).ok();
-            }
-        },
-        || {
-            for pack in packs {
-                black_box(raw::check(black_box(pack), black_box(&mut figures)));
-            }
-        },
-    )
 }
 
 const LONG_NUMBER: &str = "-123456789012345.123456789";
@@ -193,7 +146,8 @@ fn print(table: &mut Table) {
         "€ 'it''s' #,##0.0# 'об/мин'",
         &long,
     ];
-    table.job(&format!("print, standard symbols; long is {LONG_NUMBER}"));
+    let title = format!("print, standard symbols; long is {LONG_NUMBER}");
+    table.section("print", &title);
     for pattern in patterns {
         for (name, number) in [("1234.567", "1234.567"), ("long", LONG_NUMBER)] {
             for size in [64, 2048] {

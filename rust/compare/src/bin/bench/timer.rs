@@ -5,20 +5,21 @@ use std::time::{Duration, Instant};
 
 /// How long one run should take: well below a time slice, so that on a busy machine most runs are not interrupted.
 const RUN: Duration = Duration::from_micros(500);
-/// Runs of which the median is taken.
-const RUNS: usize = 31;
+/// Runs of which the median is taken, if they take no longer than this.
+const RUNS: u32 = 31;
+const ALL_RUNS: Duration = Duration::from_millis(200);
+/// A call that takes so long is not repeated.
+const LONG: Duration = Duration::from_secs(1);
 
 /// Nanoseconds a call of each, the median of several runs; the sides take turns, so that a busy machine slows both.
 pub fn times<A, B>(mut plain: impl FnMut() -> A, mut proved: impl FnMut() -> B) -> (f64, f64) {
-    let plain_calls = calls_of_a_run(&mut plain);
-    let proved_calls = calls_of_a_run(&mut proved);
-    let mut plain_times = Vec::with_capacity(RUNS);
-    let mut proved_times = Vec::with_capacity(RUNS);
+    let mut plain_side = Side::new(&mut plain);
+    let mut proved_side = Side::new(&mut proved);
     for _ in 0..RUNS {
-        plain_times.push(run(&mut plain, plain_calls));
-        proved_times.push(run(&mut proved, proved_calls));
+        plain_side.run(&mut plain);
+        proved_side.run(&mut proved);
     }
-    (median(plain_times), median(proved_times))
+    (median(plain_side.times), median(proved_side.times))
 }
 
 /// The middle value; the upper one of two.
@@ -27,25 +28,57 @@ pub fn median(mut values: Vec<f64>) -> f64 {
     values[values.len() / 2]
 }
 
-/// So many calls that a run takes long enough to be timed; finding the count warms up.
-fn calls_of_a_run<A>(call: &mut impl FnMut() -> A) -> u32 {
-    let mut calls = 1;
-    loop {
-        let start = Instant::now();
-        for _ in 0..calls {
-            black_box(call());
+/// The runs of one side: how many are left, the calls of each, and the times so far.
+struct Side {
+    left: u32,
+    calls: u32,
+    times: Vec<f64>,
+}
+
+impl Side {
+    /// Calls once, which warms up, and plans the runs by the time that took.
+    fn new<A>(call: &mut impl FnMut() -> A) -> Self {
+        let first = time(call, 1);
+        if first >= LONG {
+            return Side {
+                left: 0,
+                calls: 1,
+                times: vec![first.as_nanos() as f64],
+            };
         }
-        if start.elapsed() >= RUN {
-            return calls;
+        let (calls, run) = calls_of_a_run(call, first);
+        let runs = ALL_RUNS.as_nanos() / run.as_nanos().max(1);
+        Side {
+            left: runs.clamp(1, RUNS.into()) as u32,
+            calls,
+            times: Vec::new(),
         }
-        calls *= 2;
+    }
+
+    fn run<A>(&mut self, call: &mut impl FnMut() -> A) {
+        if self.left > 0 {
+            let run = time(call, self.calls);
+            self.times
+                .push(run.as_nanos() as f64 / f64::from(self.calls));
+            self.left -= 1;
+        }
     }
 }
 
-fn run<A>(call: &mut impl FnMut() -> A, calls: u32) -> f64 {
+/// So many calls that a run takes long enough to be timed, and how long they took.
+fn calls_of_a_run<A>(call: &mut impl FnMut() -> A, first: Duration) -> (u32, Duration) {
+    let (mut calls, mut run) = (1, first);
+    while run < RUN {
+        calls *= 2;
+        run = time(call, calls);
+    }
+    (calls, run)
+}
+
+fn time<A>(call: &mut impl FnMut() -> A, calls: u32) -> Duration {
     let start = Instant::now();
     for _ in 0..calls {
         black_box(call());
     }
-    start.elapsed().as_nanos() as f64 / f64::from(calls)
+    start.elapsed()
 }

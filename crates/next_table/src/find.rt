@@ -1,0 +1,137 @@
+// The least number that the relations of one level allow and that passes the levels below it.
+ghost use mathlib.Core.Path.{_≡_};
+ghost use Prim.Native.Nat.{_≤_, _<_, min};
+ghost use Rattle.rules.specs.Stretch.{table};
+ghost use Rattle.clash_laws.specs.Levels.{own, below};
+ghost use Rattle.clash_laws.specs.Read.{joinedIn};
+ghost use Rattle.clash_laws.specs.Ready.{Fit, Room};
+ghost use Rattle.runs.specs.Kept.{sizeOf, Told, Kept};
+ghost use Rattle.next_table.specs.Table.{Laid, Tabled};
+ghost use Rattle.next_table.specs.Building.{Looked, Opens};
+use crate::Found;
+use crate::next;
+use clash_laws::Query;
+use clash_laws::Span;
+use runs::clause::clause_run;
+
+fn lesser(a: u64, b: u64) -> u64
+    ensures { λ r. ⌜ r ≡ min a b ⌝ }
+{
+    if a < b { a } else { b }
+}
+
+// Looks at the run of p. Where the relations of the level do not hold, its end is where to go on; where
+// they do, the next number of the levels below j is: it is found where it lies in the run.
+fn look<'a>(
+    operand: &'a [u8; 320],
+    modulus: &'a [u32; 320],
+    negated: &'a [bool; 320],
+    ranges: &'a [usize; 320],
+    low: &'a [u32; 2048],
+    high: &'a [u32; 2048],
+    s: Span,
+    q: Query,
+    tiers: &[usize; 16],
+    level: usize,
+    starts: &[u64; 288],
+    ends: &[u64; 288],
+    at: &[usize; 8],
+    j: usize,
+    p: u64,
+    end: u64,
+    says: &mut [bool; 16],
+    stop: &mut [u64; 16],
+) -> Found
+    requires { ⌜ Fit q × Room q end × (p < end) × (s .to ≤ 320) × (s .stop ≤ 320) × (sizeOf s ≤ 16) × Told (table (now operand) (now modulus) (now negated) (now ranges) (now low) (now high)) s q (now tiers) ⌝ }
+    requires { ⌜ Laid (now starts) (now ends) (now at) j ⌝ }
+    requires { ⌜ Tabled (below q (joinedIn (table (now operand) (now modulus) (now negated) (now ranges) (now low) (now high)) s)) (now starts) (now ends) (now at) j ⌝ }
+    requires { ⌜ Kept (table (now operand) (now modulus) (now negated) (now ranges) (now low) (now high)) s q level p (now says) (now stop) ⌝ }
+    ensures { λ r. ⌜ Looked (own q (joinedIn (table (now (operand .entry)) (now (modulus .entry)) (now (negated .entry)) (now (ranges .entry)) (now (low .entry)) (now (high .entry))) s) level) (below q (joinedIn (table (now (operand .entry)) (now (modulus .entry)) (now (negated .entry)) (now (ranges .entry)) (now (low .entry)) (now (high .entry))) s) j) p end (r .at) (r .stop) ⌝ }
+    ensures { λ _. ⌜ Kept (table (now (operand .entry)) (now (modulus .entry)) (now (negated .entry)) (now (ranges .entry)) (now (low .entry)) (now (high .entry))) s q level p (now (says .exit)) (now (stop .exit)) ⌝ }
+{
+    let run = clause_run(
+        operand,
+        modulus,
+        negated,
+        ranges,
+        low,
+        high,
+        s,
+        q,
+        tiers,
+        level,
+        p,
+        says,
+        stop,
+    );
+    if run.says {
+        return Found {
+            at: next::next(starts, ends, at, j, p),
+            stop: lesser(run.stop, end),
+        };
+    }
+    Found {
+        at: run.stop,
+        stop: run.stop,
+    }
+}
+
+// The least number from `from` on and below `end` that the relations of the level allow and that passes
+// the levels below j, and up to where the relations of the level hold; or `end`, and past the numbers
+// that were looked at.
+pub fn find<'a>(
+    operand: &'a [u8; 320],
+    modulus: &'a [u32; 320],
+    negated: &'a [bool; 320],
+    ranges: &'a [usize; 320],
+    low: &'a [u32; 2048],
+    high: &'a [u32; 2048],
+    s: Span,
+    q: Query,
+    tiers: &[usize; 16],
+    level: usize,
+    starts: &[u64; 288],
+    ends: &[u64; 288],
+    at: &[usize; 8],
+    j: usize,
+    from: u64,
+    end: u64,
+    says: &mut [bool; 16],
+    stop: &mut [u64; 16],
+) -> Found
+    requires { ⌜ Fit q × Room q end × (from ≤ end) × (s .to ≤ 320) × (s .stop ≤ 320) × (sizeOf s ≤ 16) × Told (table (now operand) (now modulus) (now negated) (now ranges) (now low) (now high)) s q (now tiers) ⌝ }
+    requires { ⌜ Laid (now starts) (now ends) (now at) j ⌝ }
+    requires { ⌜ Tabled (below q (joinedIn (table (now operand) (now modulus) (now negated) (now ranges) (now low) (now high)) s)) (now starts) (now ends) (now at) j ⌝ }
+    requires { ⌜ Kept (table (now operand) (now modulus) (now negated) (now ranges) (now low) (now high)) s q level from (now says) (now stop) ⌝ }
+    ensures { λ r. ⌜ Opens (own q (joinedIn (table (now (operand .entry)) (now (modulus .entry)) (now (negated .entry)) (now (ranges .entry)) (now (low .entry)) (now (high .entry))) s) level) (below q (joinedIn (table (now (operand .entry)) (now (modulus .entry)) (now (negated .entry)) (now (ranges .entry)) (now (low .entry)) (now (high .entry))) s) j) from end (r .at) (r .stop) ⌝ }
+    ensures { λ r. ⌜ Kept (table (now (operand .entry)) (now (modulus .entry)) (now (negated .entry)) (now (ranges .entry)) (now (low .entry)) (now (high .entry))) s q level (r .stop) (now (says .exit)) (now (stop .exit)) ⌝ }
+{
+    let mut p = from;
+    while p < end {
+        let f = look(
+            operand,
+            modulus,
+            negated,
+            ranges,
+            low,
+            high,
+            s,
+            q,
+            tiers,
+            level,
+            starts,
+            ends,
+            at,
+            j,
+            p,
+            end,
+            says,
+            stop,
+        );
+        if f.at < f.stop {
+            return f;
+        }
+        p = f.at;
+    }
+    Found { at: end, stop: p }
+}

@@ -1,0 +1,92 @@
+// The least number that a clause allows, by a table of next numbers.
+//
+// All moduli are powers of ten times the factor of what is searched for, and each divides the next. So
+// the relations go by levels, one for each power, and each level has a list of segments: the remainders
+// that it allows, from the first on that passes the levels below. The next number of a level is found
+// from that of the level below it (climb, next), and the least number of a window from the next number
+// of all levels (find). The work depends on the ranges and not on the window. The entry is least_number.
+mod climb;
+mod find;
+mod level;
+mod next;
+mod search;
+
+ghost use mathlib.Core.Path.{_≡_};
+ghost use Rattle.rules.specs.Stretch.{table};
+ghost use Rattle.clash_laws.specs.Ready.{ready, leastIn};
+use clash_laws::Query;
+use clash_laws::Span;
+
+// A number that is found, and up to where the relations of its level hold.
+pub struct Found {
+    pub at: u64,
+    pub stop: u64,
+}
+
+// What became of a table: it stands, or no number passes its levels, or there was no room.
+pub enum Built {
+    Stands,
+    Empty,
+    Full,
+}
+
+const RELATIONS: usize = 320;
+
+// 10^18: no value that is compared is above it
+const CAP: u64 = 1_000_000_000_000_000_000;
+
+// 10^9
+const FRACTION_CAP: u64 = 1_000_000_000;
+
+// Whether a search has room: its operands stay within CAP, and its relations within the arrays.
+fn is_ready(s: Span, q: Query, lo: u64, hi: u64) -> bool
+    ensures { λ r. ⌜ r ≡ ready s q lo hi ⌝ }
+{
+    if hi < lo {
+        return false;
+    }
+    if RELATIONS < s.to {
+        return false;
+    }
+    if RELATIONS < s.stop {
+        return false;
+    }
+    if 1 < q.n {
+        return false;
+    }
+    if 1 < q.i {
+        return false;
+    }
+    if 1 < q.t {
+        return false;
+    }
+    if q.f == 0 {
+        return hi <= CAP;
+    }
+    if FRACTION_CAP < q.f {
+        return false;
+    }
+    hi <= FRACTION_CAP
+}
+
+// The least number from lo on and below hi that passes what the clause asks, or hi; hi too where the
+// search has no room.
+pub fn least_number<'a>(
+    operand: &'a [u8; 320],
+    modulus: &'a [u32; 320],
+    negated: &'a [bool; 320],
+    ranges: &'a [usize; 320],
+    low: &'a [u32; 2048],
+    high: &'a [u32; 2048],
+    s: Span,
+    q: Query,
+    lo: u64,
+    hi: u64,
+) -> u64
+    ensures { λ r. ⌜ r ≡ leastIn (table (now (operand .entry)) (now (modulus .entry)) (now (negated .entry)) (now (ranges .entry)) (now (low .entry)) (now (high .entry))) s q lo hi ⌝ }
+{
+    if is_ready(s, q, lo, hi) {
+        return search::least(operand, modulus, negated, ranges, low, high, s, q, lo, hi);
+    }
+    hi
+}

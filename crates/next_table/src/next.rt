@@ -1,0 +1,24 @@
+// The next number that passes the levels of the table.
+ghost use mathlib.Core.Bool.{Bool};
+ghost use Prim.Native.Nat.{ℕ, _+_, _≤_};
+ghost use Rattle.least.specs.Seek.{Next};
+ghost use Rattle.clash_laws.specs.Read.{cap};
+ghost use Rattle.next_table.specs.Table.{Laid, Tabled};
+use crate::climb;
+
+// The least number from x on that passes the levels below j. Level i is asked once, with the next
+// number of those below it.
+pub fn next(starts: &[u64; 288], ends: &[u64; 288], at: &[usize; 8], j: usize, x: u64) -> u64
+    requires { ⌜ Laid (now starts) (now ends) (now at) j × (x ≤ cap) ⌝ }
+    ensures { λ r. ⌜ (r ≤ x + 2_000_000) × ((S : ℕ → ℕ → Bool) → Tabled S (now (starts .entry)) (now (ends .entry)) (now (at .entry)) j → Next (S j) x r) ⌝ }
+{
+    let mut y = x;
+    let mut m: u64 = 1;
+    let mut i: usize = 0;
+    while i < j {
+        y = climb::climb(starts, ends, at[i], at[i + 1], m, x, y);
+        m *= 10;
+        i += 1;
+    }
+    y
+}

@@ -1,0 +1,5 @@
+pub mod Alikes
+pub mod Sweeping
+pub mod Levelling
+pub mod Keeping
+pub mod Marking

@@ -1,0 +1,44 @@
+-- Runs of ranges and of tests, and the levels that are marked.
+use mathlib.Core.Path.{_≡_}
+use mathlib.Core.Bool.{Bool, true, false}
+use mathlib.Core.List.{List}
+use Prim.Native.Nat.{ℕ, _+_, _-_, _/_, min, max}
+use lib.Dec.{ltb, eqb}
+use lib.ListN.{getD}
+use Rattle.decimal.specs.Choice.{if_then_else_}
+use Rattle.rules.specs.Syntax.{Relation}
+use Rattle.clash_laws.specs.Fast.{asked}
+use Rattle.clash_laws.specs.Levels.{levelIn}
+use Rattle.clash_laws.specs.declared.Query.{Query}
+use Rattle.runs.specs.declared.Run.{Run}
+
+-- past every number that is asked
+abbrev pub far : ℕ
+far = 4_000_000_000_000_000_000
+
+-- past the ranges so far that hold y, and the range a..b; 0 where none does
+unfoldable pub endWith : ℕ → ℕ → ℕ → ℕ → ℕ
+endWith end a b y = if ltb y a then end else if ltb b y then end else max end (b + 1)
+
+-- the least start above y of those so far, and of a range from a on
+unfoldable pub nextWith : ℕ → ℕ → ℕ → ℕ
+nextWith next a y = if ltb y a then min next a else next
+
+-- the first number that s takes to y or further
+unfoldable pub upwards : ℕ → ℕ → ℕ
+upwards y s = if eqb s 1 then y else (y + (s - 1)) / s
+
+-- of two runs that begin at one number, the run of both tests together
+unfoldable pub joinedRun : Run → Run → Run
+joinedRun a b =
+    if a .says then (if b .says then record { says = true; stop = min (a .stop) (b .stop) } else b) else
+    if b .says then a else
+    record { says = false; stop = max (a .stop) (b .stop) }
+
+-- the level of a relation that is asked is marked
+abbrev pub Noted : Query → Relation → List Bool → Type 0
+Noted q r marks = asked q r ≡ true → getD marks (levelIn q r) false ≡ true
+
+-- what is marked stays so
+abbrev pub Grown : List Bool → List Bool → Type 0
+Grown old new = (j : ℕ) → getD old j false ≡ true → getD new j false ≡ true

@@ -1,0 +1,228 @@
+// Relations at their places in a pack's arrays: what one says of a value, or of the number searched for
+// at a level, and how far it says so.
+ghost use mathlib.Core.Path.{_≡_};
+ghost use mathlib.Core.Bool.{not};
+ghost use Prim.Native.Nat.{_+_, _-_, _*_, _/_, _%_, _≤_, _<_, min};
+ghost use lib.ListN.{getD};
+ghost use Rattle.decimal.specs.Choice.{if_then_else_};
+ghost use Rattle.rules.specs.Stretch.{startAt, table, relationAt};
+ghost use Rattle.least.specs.Seek.{Alike};
+ghost use Rattle.clash_laws.specs.Fast.{listed, test, factor, passes};
+ghost use Rattle.clash_laws.specs.Levels.{levelOf, ownOne};
+ghost use Rattle.clash_laws.specs.Read.{cap};
+ghost use Rattle.clash_laws.specs.Ready.{Fit, Room};
+ghost use Rattle.runs.specs.Runs.{far, upwards};
+use crate::FAR;
+use crate::Run;
+use crate::range;
+use clash_laws::Query;
+
+const MAX_RANGES: usize = 2048;
+
+// Where the ranges of the relation j begin.
+fn start_at(ends: &[usize; 320], j: usize) -> usize
+    requires { ⌜ j < 320 ⌝ }
+    ensures { λ r. ⌜ r ≡ startAt (now (ends .entry)) j ⌝ }
+{
+    if j == 0 {
+        return 0;
+    }
+    ends[j - 1]
+}
+
+// Where they end, within the room for ranges.
+fn stop_at(ends: &[usize; 320], j: usize) -> usize
+    requires { ⌜ j < 320 ⌝ }
+    ensures { λ r. ⌜ r ≡ min (getD (now (ends .entry)) j 0) 2048 ⌝ }
+{
+    let end = ends[j];
+    if end < MAX_RANGES { end } else { MAX_RANGES }
+}
+
+// x's remainder by m; x itself where m is 0.
+fn remainder(x: u64, m: u64) -> u64
+    ensures { λ r. ⌜ r ≡ x % m ⌝ }
+{
+    if m == 0 {
+        return x;
+    }
+    x % m
+}
+
+// The other answer, for a negated relation.
+fn turned(b: bool, negated: bool) -> bool
+    ensures { λ r. ⌜ r ≡ (if negated then not b else b) ⌝ }
+{
+    if negated { !b } else { b }
+}
+
+// What the relation j says of the remainder y, or of the value y where it has no modulus.
+fn listed_run<'a>(
+    operand: &'a [u8; 320],
+    modulus: &'a [u32; 320],
+    negated: &'a [bool; 320],
+    ranges: &'a [usize; 320],
+    low: &'a [u32; 2048],
+    high: &'a [u32; 2048],
+    j: usize,
+    y: u64,
+) -> Run
+    requires { ⌜ (j < 320) × (y ≤ cap) ⌝ }
+    ensures { λ r. ⌜ Alike (listed (relationAt (table (now (operand .entry)) (now (modulus .entry)) (now (negated .entry)) (now (ranges .entry)) (now (low .entry)) (now (high .entry))) j)) y (r .says) (r .stop) ⌝ }
+    ensures { λ r. ⌜ r .stop ≤ far ⌝ }
+{
+    let from = start_at(ranges, j);
+    let to = stop_at(ranges, j);
+    let r = range::range_run(low, high, from, to, y);
+    Run {
+        says: turned(r.says, negated[j]),
+        stop: r.stop,
+    }
+}
+
+// Whether it holds of the value x.
+pub fn holds_of<'a>(
+    operand: &'a [u8; 320],
+    modulus: &'a [u32; 320],
+    negated: &'a [bool; 320],
+    ranges: &'a [usize; 320],
+    low: &'a [u32; 2048],
+    high: &'a [u32; 2048],
+    j: usize,
+    x: u64,
+) -> bool
+    requires { ⌜ (x ≤ cap) × (j < 320) ⌝ }
+    ensures { λ r. ⌜ r ≡ test (relationAt (table (now (operand .entry)) (now (modulus .entry)) (now (negated .entry)) (now (ranges .entry)) (now (low .entry)) (now (high .entry))) j) x ⌝ }
+{
+    let y = remainder(x, range::wide(modulus[j]));
+    let r = listed_run(operand, modulus, negated, ranges, low, high, j, y);
+    r.says
+}
+
+// The factor of an operand, by its letter.
+pub fn factor_of(q: Query, o: u8) -> u64
+    ensures { λ r. ⌜ r ≡ factor q o ⌝ }
+{
+    if o == 110 {
+        return q.n;
+    }
+    if o == 105 {
+        return q.i;
+    }
+    if o == 102 {
+        return q.f;
+    }
+    if o == 116 {
+        return q.t;
+    }
+    0
+}
+
+// The level of a relation of x * s with the modulus w.
+pub fn level_of(s: u64, w: u64) -> usize
+    requires { ⌜ s ≤ 1_000_000_000 ⌝ }
+    ensures { λ r. ⌜ r ≡ levelOf s w ⌝ }
+    ensures { λ r. ⌜ r < 9 ⌝ }
+{
+    if w == 0 {
+        return 7;
+    }
+    if w <= s {
+        if s % w == 0 {
+            return 0;
+        }
+        return 8;
+    }
+    if w == 10 * s {
+        return 1;
+    }
+    if w == 100 * s {
+        return 2;
+    }
+    if w == 1_000 * s {
+        return 3;
+    }
+    if w == 10_000 * s {
+        return 4;
+    }
+    if w == 100_000 * s {
+        return 5;
+    }
+    if w == 1_000_000 * s {
+        return 6;
+    }
+    8
+}
+
+// The first number that s takes to y or further.
+fn upwards_by(y: u64, s: u64) -> u64
+    requires { ⌜ (0 < s) × (s ≤ 1_000_000_000) × (y ≤ far) ⌝ }
+    ensures { λ r. ⌜ r ≡ upwards y s ⌝ }
+{
+    if s == 1 {
+        return y;
+    }
+    (y + (s - 1)) / s
+}
+
+// What the relation j asks of p at a level. Where it is not asked there, nothing ends the run.
+pub fn own_run<'a>(
+    operand: &'a [u8; 320],
+    modulus: &'a [u32; 320],
+    negated: &'a [bool; 320],
+    ranges: &'a [usize; 320],
+    low: &'a [u32; 2048],
+    high: &'a [u32; 2048],
+    q: Query,
+    level: usize,
+    j: usize,
+    p: u64,
+) -> Run
+    requires { ⌜ Fit q ⌝ }
+    requires { ⌜ Room q p ⌝ }
+    requires { ⌜ j < 320 ⌝ }
+    ensures { λ r. ⌜ Alike (ownOne q level (relationAt (table (now (operand .entry)) (now (modulus .entry)) (now (negated .entry)) (now (ranges .entry)) (now (low .entry)) (now (high .entry))) j)) p (r .says) (r .stop) ⌝ }
+    ensures { λ r. ⌜ r .stop ≤ far ⌝ }
+{
+    let s = factor_of(q, operand[j]);
+    if s == 0 {
+        return Run {
+            says: true,
+            stop: FAR,
+        };
+    }
+    let l = level_of(s, range::wide(modulus[j]));
+    if l != level {
+        return Run {
+            says: true,
+            stop: FAR,
+        };
+    }
+    let r = listed_run(operand, modulus, negated, ranges, low, high, j, p * s);
+    Run {
+        says: r.says,
+        stop: upwards_by(r.stop, s),
+    }
+}
+
+// Whether x passes what the relation j asks of it.
+pub fn passes_of<'a>(
+    operand: &'a [u8; 320],
+    modulus: &'a [u32; 320],
+    negated: &'a [bool; 320],
+    ranges: &'a [usize; 320],
+    low: &'a [u32; 2048],
+    high: &'a [u32; 2048],
+    q: Query,
+    j: usize,
+    x: u64,
+) -> bool
+    requires { ⌜ Room q x × (j < 320) ⌝ }
+    ensures { λ r. ⌜ r ≡ passes q (relationAt (table (now (operand .entry)) (now (modulus .entry)) (now (negated .entry)) (now (ranges .entry)) (now (low .entry)) (now (high .entry))) j) x ⌝ }
+{
+    let s = factor_of(q, operand[j]);
+    if s == 0 {
+        return true;
+    }
+    holds_of(operand, modulus, negated, ranges, low, high, j, x * s)
+}

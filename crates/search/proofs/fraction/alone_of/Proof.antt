@@ -1,0 +1,21 @@
+-- `search::fraction::alone_of` is a search that asks t only.
+use mathlib.Core.Path.{_∙_}
+use Rattle.rules.specs.Stretch.{table}
+use Rattle.clash_laws.specs.Read.{joinedIn}
+use Rattle.clash_laws.proofs.Placing.{alone-is}
+use Rattle.clash_laws.proofs.Readying.{alone-ready}
+use borrow.Author.Needs.{needs}
+use Rattle.search.proofs.fraction.alone_of.Statement.{statement}
+use Rattle.search.proofs.fraction.alone_of.Tie as tie
+
+least-from-requires : tie.Need-least-from-requires
+least-from-requires c κs = c .pre .2
+
+returns : tie.Need-returns
+returns c =
+    let a = c .before .args in
+    let T = table (a .operand .now) (a .modulus .now) (a .negated .now) (a .ranges .now) (a .low .now) (a .high .now) in
+    alone-is (c .least-from .result) (joinedIn T (a .s)) (c .least-from .ensures ∙ alone-ready T (a .s) (c .before .pre .0) (c .before .pre .1))
+
+pub alone-of-spec : {M : Type 1} → statement M
+alone-of-spec = tie.close (tie.spec least-from-requires returns)

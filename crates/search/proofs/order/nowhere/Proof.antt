@@ -1,0 +1,10 @@
+-- `search::order::nowhere` has the rank past all.
+use Rattle.clash_laws.proofs.Spotting.{nowhere-rank, nowhere-proper}
+use Rattle.search.proofs.order.nowhere.Statement.{statement}
+use Rattle.search.proofs.order.nowhere.Tie as tie
+
+returns : tie.Need-returns
+returns c = (nowhere-rank, nowhere-proper)
+
+pub nowhere-spec : {M : Type 1} → statement M
+nowhere-spec = tie.close (tie.spec returns)

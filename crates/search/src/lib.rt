@@ -1,0 +1,74 @@
+// The least admitted number that chosen relations allow, with v within bounds: one search for every
+// caller.
+//
+// Crate clash_laws has the definition, the search that is run and the proof that they agree; crate
+// next_table searches for one number. A pack's arrays are lent one by one.
+mod clause;
+mod floor;
+mod fraction;
+pub mod limits;
+pub mod order;
+mod settle;
+
+ghost use mathlib.Core.Path.{_≡_};
+ghost use mathlib.Core.Bool.{true, false};
+ghost use Prim.Native.Nat.{_^_, _≤_};
+ghost use Rattle.decimal.specs.Choice.{both};
+ghost use Rattle.number.specs.Limits.{maxDigits, maxPlaces};
+ghost use Rattle.number.specs.declared.Number.{Number};
+ghost use Rattle.plural.specs.Meaning.{clauseHolds};
+ghost use Rattle.rules.specs.Stretch.{table};
+ghost use Rattle.clash_laws.specs.Bounded.{withinPlaces};
+ghost use Rattle.clash_laws.specs.Check.{leastRank};
+ghost use Rattle.clash_laws.specs.Fast.{queryI, alone, search};
+ghost use Rattle.clash_laws.specs.Floors.{Under};
+ghost use Rattle.clash_laws.specs.Read.{joinedIn};
+ghost use Rattle.clash_laws.specs.Spots.{spotRank, Proper};
+use answer::Witness;
+use clash_laws::Bounds;
+use clash_laws::Floors;
+use clash_laws::Span;
+
+// The least admitted number that meets the relations of both stretches and whose v is within the
+// bounds; order::nowhere() where there is none. The floors spare the search what lies below them.
+pub fn least_admitted<'a>(
+    operand: &'a [u8; 320],
+    modulus: &'a [u32; 320],
+    negated: &'a [bool; 320],
+    ranges: &'a [usize; 320],
+    low: &'a [u32; 2048],
+    high: &'a [u32; 2048],
+    s: Span,
+    b: Bounds,
+    l: Floors,
+) -> Witness
+    requires { ⌜ (s .to ≤ 320) × (s .stop ≤ 320) × Under (joinedIn (table (now operand) (now modulus) (now negated) (now ranges) (now low) (now high)) s) l ⌝ }
+    ensures { λ r. ⌜ (spotRank r ≡ leastRank (λ (x : Number). both (withinPlaces b x) (clauseHolds (joinedIn (table (now (operand .entry)) (now (modulus .entry)) (now (negated .entry)) (now (ranges .entry)) (now (low .entry)) (now (high .entry))) s) x))) × Proper r ⌝ }
+{
+    clause::clause_spot(operand, modulus, negated, ranges, low, high, s, b, l)
+}
+
+// The least i where f is 0, the least i where it is not, and the least t, of the relations of both
+// stretches: floors of each clause that they are a part of.
+pub fn floors_of<'a>(
+    operand: &'a [u8; 320],
+    modulus: &'a [u32; 320],
+    negated: &'a [bool; 320],
+    ranges: &'a [usize; 320],
+    low: &'a [u32; 2048],
+    high: &'a [u32; 2048],
+    s: Span,
+) -> Floors
+    requires { ⌜ (s .to ≤ 320) × (s .stop ≤ 320) ⌝ }
+    ensures { λ r. ⌜ Under (joinedIn (table (now (operand .entry)) (now (modulus .entry)) (now (negated .entry)) (now (ranges .entry)) (now (low .entry)) (now (high .entry))) s) r ⌝ }
+    ensures { λ r. ⌜ (r .whole ≡ search (queryI true) (joinedIn (table (now (operand .entry)) (now (modulus .entry)) (now (negated .entry)) (now (ranges .entry)) (now (low .entry)) (now (high .entry))) s) 0 (10 ^ maxDigits)) × (r .part ≡ search (queryI false) (joinedIn (table (now (operand .entry)) (now (modulus .entry)) (now (negated .entry)) (now (ranges .entry)) (now (low .entry)) (now (high .entry))) s) 0 (10 ^ maxDigits)) × (r .tail ≡ search alone (joinedIn (table (now (operand .entry)) (now (modulus .entry)) (now (negated .entry)) (now (ranges .entry)) (now (low .entry)) (now (high .entry))) s) 0 (10 ^ maxPlaces)) ⌝ }
+{
+    let whole = clause::integer_of(operand, modulus, negated, ranges, low, high, s, true, 0, 0);
+    let part = clause::integer_of(operand, modulus, negated, ranges, low, high, s, false, 0, 0);
+    let tail = fraction::alone_of(operand, modulus, negated, ranges, low, high, s, 0);
+    Floors {
+        whole: whole,
+        part: part,
+        tail: tail,
+    }
+}

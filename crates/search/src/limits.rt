@@ -1,0 +1,19 @@
+// The limits of admitted numbers (crate number, specs/Limits.antt), and the counts that follow from
+// them, each once.
+pub const MAX_EXPONENT: u64 = 14;
+
+// past the largest: no number was found
+pub const NO_EXPONENT: u8 = 15;
+
+pub const MAX_PLACES: u64 = 9;
+
+// the same, as a place in an array
+pub const LAST_PLACE: usize = 9;
+
+// 10^15: i is below it
+pub const INTEGER_LIMIT: u64 = 1_000_000_000_000_000;
+
+// 10^9: f is below it, and v * 10^9 + f is v and f as one number, of which there are so many
+pub const FRACTION_LIMIT: u64 = 1_000_000_000;
+
+pub const FRACTIONS: u64 = 10_000_000_000;
