@@ -15,7 +15,7 @@ use Rattle.plural.specs.Meaning.{all, inRange, clauseHolds}
 use Rattle.least.proofs.Seeking.{and-false-left, least-one, seek-least}
 use Rattle.clash_laws.specs.Bounded.{fromTo, withinPlaces, placesBetween, bounded}
 use Rattle.clash_laws.specs.Check.{lowest, admits, numberAt, ranked, ranks, found, leastRank}
-use Rattle.clash_laws.specs.Fast.{Query, factor, listed, test, passes, passesAll, queryT, search, ofExponent, settledE, settledF, exponentOf, alone, aloneOf, tailOf, integerOf, clauseRank}
+use Rattle.clash_laws.specs.Fast.{Query, factor, listed, test, passes, passesAll, queryT, search, ofExponent, settledE, settledV, settledW, settledF, exponentOf, alone, aloneOf, tailOf, integerOf, clauseRank}
 use Rattle.clash_laws.specs.declared.Bounds.{Bounds}
 use Rattle.clash_laws.proofs.FastIs.{lowest-le, least-same, clause-least}
 use Rattle.clash_laws.proofs.Searched.{search-least}
@@ -37,9 +37,17 @@ module _ (b : Bounds) where
   pub from-least : (v : ℕ) → b .least .0 ≤ v → leb v (b .most .0) ≡ fromTo b v
   from-least v h = sym (ap (λ (x : Bool). both x (leb v (b .most .0))) (le-leb (b .least .0) v h))
 
+  pub places-test : (v : ℕ) → test (placesBetween b) v ≡ fromTo b v
+  unfolding test listed
+  places-test v = one-range b v
+
   pub asks-v : (v w : ℕ) → settledF v w (placesBetween b) ≡ fromTo b v
-  unfolding settledF test listed
-  asks-v v w = one-range b v
+  unfolding settledV settledW test listed
+  asks-v v w = alike (either (inRange (v % 0) (record { low = b .least .0; high = b .most .0 })) false) ∙ one-range b v
+    where
+      alike : (a : Bool) → both a true ≡ a
+      alike true = refl
+      alike false = refl
 
   module _ (c : List Relation) where
     -- ---- nothing else asks them

@@ -213,7 +213,7 @@ one-kind : (x : ℕ) (r : Relation) → eqb (r .operand) 110 ≡ false → passe
 unfolding passes factor
 one-kind x r n = rw n
 
-each-kind : (x : ℕ) (c : List Relation) → asksOf 110 c ≡ false → all (λ (r : Relation). passes (queryI false) r x) c ≡ all (λ (r : Relation). passes (queryI true) r x) c
+pub each-kind : (x : ℕ) (c : List Relation) → asksOf 110 c ≡ false → all (λ (r : Relation). passes (queryI false) r x) c ≡ all (λ (r : Relation). passes (queryI true) r x) c
 each-kind x [] h = refl
 each-kind x (r ∷ rs) h =
     let n = neither (eqb (r .operand) 110) (asksOf 110 rs) h in

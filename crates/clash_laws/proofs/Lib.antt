@@ -19,3 +19,6 @@ pub mod Holding
 pub mod Rows
 pub mod Bounding
 pub mod Flooring
+pub mod Bits
+pub mod Profiles
+pub mod Whole

@@ -74,7 +74,7 @@ module _ (k : ℕ) (hk : k < maxPlaces) (c : List Relation) where
   abbrev Good : ℕ → ℕ → Bool
   Good t v = both (all (settledF v (v - k)) c) (ltb t (10 ^ (v - k)))
 
-  sought : (t : ℕ) → Least (λ v. both (all (settledF v (v - k)) c) (ltb t (10 ^ (v - k)))) (suc k) (suc k + (maxPlaces - k)) (tailPlaces k t c)
+  pub sought : (t : ℕ) → Least (λ v. both (all (settledF v (v - k)) c) (ltb t (10 ^ (v - k)))) (suc k) (suc k + (maxPlaces - k)) (tailPlaces k t c)
   unfolding tailPlaces
   sought t = seek-least (λ v. both (all (settledF v (v - k)) c) (ltb t (10 ^ (v - k)))) (maxPlaces - k) (suc k)
 

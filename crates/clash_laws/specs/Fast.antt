@@ -72,12 +72,17 @@ unfoldable pub settledE : ℕ → Relation → Bool
 settledE e r = if ofExponent (r .operand) then test r e else true
 
 -- where w is not 0, n is no whole number
-unfoldable pub settledF : ℕ → ℕ → Relation → Bool
-settledF v w r =
+unfoldable pub settledV : ℕ → Relation → Bool
+settledV v r = if eqb (r .operand) 118 then test r v else true
+
+unfoldable pub settledW : ℕ → Relation → Bool
+settledW w r =
     if eqb (r .operand) 110 then either (eqb w 0) (r .negated) else
-    if eqb (r .operand) 118 then test r v else
     if eqb (r .operand) 119 then test r w else
     true
+
+abbrev pub settledF : ℕ → ℕ → Relation → Bool
+settledF v w r = both (settledV v r) (settledW w r)
 
 -- ---- a clause: the e, the v and f, and the i of its least number do not depend on one another, but that i depends on whether f is 0
 
