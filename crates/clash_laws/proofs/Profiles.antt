@@ -2,12 +2,13 @@
 use mathlib.Core.Path.{_≡_, refl, sym, ap, ap₂, subst, _∙_, fun-ext}
 use mathlib.Core.Bool.{Bool, true, false, not}
 use mathlib.Core.List.{List, [], _∷_, _++_}
-use mathlib.Core.Logic.{_⊎_, inl, inr}
+use mathlib.Core.Logic.{_⊎_, ⊎-elim, inl, inr}
 use Prim.Native.Nat.{ℕ, zero, suc, _+_, _*_, _/_, _%_, _^_, _≤_, _<_}
 use native.Mathlib.Omega.{arith}
-use native.Mathlib.Nat.{div-one}
+use native.Mathlib.Nat.{div-one, div-eq-of-lt}
 use lib.Bits.{bitAnd, and-block}
 use lib.Count.{trailingZeros}
+use lib.Pow.{pow-mono}
 use lib.Dec.{eqb, leb}
 use borrow.Author.Tests.{eq-eqb, ne-eqb, le-leb}
 use Rattle.decimal.specs.Choice.{if_then_else_, both, either}
@@ -19,12 +20,14 @@ use Rattle.plural.specs.Meaning.{all}
 use Rattle.plural.specs.Select.{bit, maskOf}
 use Rattle.plural.proofs.Masks.{mask-fits}
 use Rattle.least.specs.Seek.{seek}
+use Rattle.least.proofs.Seeking.{and-false-left, and-false-right}
 use Rattle.clash_laws.specs.Bounded.{fromTo, placesBetween, bounded}
-use Rattle.clash_laws.specs.Fast.{test, listed, passes, factor, queryT, asksOf, ofExponent, settledE, settledV, settledW, settledF, exponentOf}
+use Rattle.clash_laws.specs.Fast.{test, listed, passes, factor, queryT, asksOf, ofExponent, settledE, settledV, settledW, settledF, exponentOf, fractions, partCode}
 use Rattle.clash_laws.specs.Profile.{valuesOf, marks, flagAt, packed, profileOf, marked, Settled}
 use Rattle.clash_laws.specs.declared.Bounds.{Bounds}
 use Rattle.clash_laws.proofs.Bounding.{places-test}
 use Rattle.clash_laws.proofs.Bits.{bit-at, bits-and, bits-first, bits-none}
+use Rattle.clash_laws.proofs.Placing.{part-shut}
 use Rattle.clash_laws.proofs.Searched.{all-append}
 
 -- ---- clauses joined
@@ -280,3 +283,22 @@ module _ (c : List Relation) (p : ℕ) (is : p ≡ profileOf c) where
   pub profile-f : (b : Bool) → b ≡ eqb (p / 4398046511104 % 2) 1 → b ≡ not (asksOf 102 c)
   unfolding flagAt
   profile-f b e = flag-is 2 b (omega arith) (e ∙ ap (λ (x : ℕ). eqb (x % 2) 1) (let z : p / 4398046511104 ≡ p / 1099511627776 / 4 = omega arith in z)) ∙ none-asks 102 c
+
+-- ---- where no v or no w other than 0 is left, f is 0
+
+pub profile-shut : (c : List Relation) (vs ws : ℕ) → Settled c vs ws → (vs < 2) ⊎ (ws < 2) → fractions ≡ partCode maxPlaces c
+profile-shut c vs ws s h = part-shut c (λ v w p q. s .says v w (p .1) (q .1) ∙ ⊎-elim (λ k. and-false-left (marked ws w) (bare vs v k (p .0))) (λ k. and-false-right (marked vs v) (bare ws w k (q .0))) h)
+  where
+    bare : (m k : ℕ) → m < 2 → 1 ≤ k → marked m k ≡ false
+    bare m k a b =
+        let g : 2 ^ 1 ≤ 2 ^ k = pow-mono {i = 1} {j = k} b in
+        let z : m / 2 ^ k ≡ 0 = div-eq-of-lt (omega arith) in
+        rw z
+
+-- one test and then the other
+module _ (vs ws v w : ℕ) (hv : v ≤ maxPlaces) (hw : w ≤ maxPlaces) (c : List Relation) (s : Settled c vs ws) where
+  pub settled-no : marked vs v ≡ false → false ≡ all (settledF v w) c
+  settled-no e = sym (s .says v w hv hw ∙ and-false-left (marked ws w) e)
+
+  pub settled-yes : marked vs v ≡ true → marked ws w ≡ all (settledF v w) c
+  settled-yes e = sym (s .says v w hv hw ∙ ap (λ (x : Bool). both x (marked ws w)) e)

@@ -22,7 +22,7 @@ use Rattle.clash_laws.proofs.Flooring.{each-kind}
 use Rattle.clash_laws.proofs.Placing.{tail-ge, sought}
 use Rattle.clash_laws.proofs.Profiles.{both-all}
 use Rattle.clash_laws.proofs.Searched.{both-held, search-least, least-search}
-use Rattle.clash_laws.proofs.Spotting.{KindSays, clause-some, some-fraction}
+use Rattle.clash_laws.proofs.Spotting.{KindSays, clause-some, some-fraction, kind-no-fraction}
 
 -- the number whose f is 0 is the clause's
 pub clause-whole : (c : List Relation) (e x : ℕ) → e ≡ exponentOf c → e ≤ maxExponent → KindSays true e c x → kindRank true e c ≤ kindRank false e c → x ≡ clauseRank c
@@ -38,6 +38,10 @@ clause-whole c e x g h k l =
         (split q block))
         (λ b. rw (le-ltb p block b, le-ltb q block (let z : block ≤ q = omega arith in z)) (omega arith))
         (split p block)
+
+-- there is no number whose f is 0
+pub clause-part : (c : List Relation) (e q y : ℕ) → e ≡ exponentOf c → e ≤ maxExponent → q ≡ fractionCode true c → fractions ≤ q → KindSays false e c y → y ≤ ranks → y ≡ clauseRank c
+clause-part c e q y g h f l k b = clause-some c e ranks y y g h (kind-no-fraction true e c q ranks f l refl) k (omega arith)
 
 -- ---- a kind's rank
 
