@@ -3,27 +3,29 @@ use mathlib.Core.Path.{_≡_, refl, sym, ap, ap₂, subst, _∙_, fun-ext}
 use mathlib.Core.Bool.{Bool, true, false, not}
 use mathlib.Core.List.{List, [], _∷_, _++_}
 use mathlib.Core.Logic.{_⊎_, ⊎-elim, inl, inr}
-use Prim.Native.Nat.{ℕ, zero, suc, _+_, _*_, _/_, _%_, _^_, _≤_, _<_}
+use Prim.Native.Nat.{ℕ, zero, suc, _+_, _*_, _/_, _%_, _^_, _≤_, _<_, min, max}
 use native.Mathlib.Omega.{arith}
 use native.Mathlib.Nat.{div-one, div-eq-of-lt}
 use lib.Bits.{bitAnd, and-block}
 use lib.Count.{trailingZeros}
 use lib.Pow.{pow-mono}
 use lib.Dec.{eqb, leb}
+use lib.ListN.{getD}
+use native.Mathlib.Decide.{ℕ-discrete}
 use borrow.Author.Tests.{eq-eqb, ne-eqb, le-leb}
 use Rattle.decimal.specs.Choice.{if_then_else_, both, either}
 use Rattle.number.specs.Limits.{maxExponent, maxPlaces}
 use Rattle.rules.specs.Syntax.{Relation}
-use Rattle.rules.specs.Stretch.{stretch}
+use Rattle.rules.specs.Stretch.{stretch, startAt, Table, relationsIn, clauseAt}
 use Rattle.rules.proofs.Stretches.{stretch-same}
 use Rattle.plural.specs.Meaning.{all}
 use Rattle.plural.specs.Select.{bit, maskOf}
 use Rattle.plural.proofs.Masks.{mask-fits}
 use Rattle.least.specs.Seek.{seek}
-use Rattle.least.proofs.Seeking.{and-false-left, and-false-right}
+use Rattle.least.proofs.Seeking.{split, and-false-left, and-false-right}
 use Rattle.clash_laws.specs.Bounded.{fromTo, placesBetween, bounded}
 use Rattle.clash_laws.specs.Fast.{test, listed, passes, factor, queryT, asksOf, ofExponent, settledE, settledV, settledW, settledF, exponentOf, fractions, partCode}
-use Rattle.clash_laws.specs.Profile.{valuesOf, marks, flagAt, packed, profileOf, marked, Settled}
+use Rattle.clash_laws.specs.Profile.{valuesOf, marks, flagAt, packed, profileOf, marked, Settled, Profiled, ProfiledRules}
 use Rattle.clash_laws.specs.declared.Bounds.{Bounds}
 use Rattle.clash_laws.proofs.Bounding.{places-test}
 use Rattle.clash_laws.proofs.Bits.{bit-at, bits-and, bits-first, bits-none}
@@ -302,3 +304,37 @@ module _ (vs ws v w : ℕ) (hv : v ≤ maxPlaces) (hw : w ≤ maxPlaces) (c : Li
 
   pub settled-yes : marked vs v ≡ true → marked ws w ≡ all (settledF v w) c
   settled-yes e = sym (s .says v w hv hw ∙ ap (λ (x : Bool). both x (marked ws w)) e)
+
+-- ---- the profiles of a pack's clauses
+
+module _ (T : Table) (R : List ℕ) where
+  -- of a clause, as a stretch; and of two
+  pub profile-clause : (a b j p : ℕ) → a ≡ startAt R j → b ≡ min (getD R j 0) 320 → p ≡ profileOf (relationsIn T a b) → p ≡ profileOf (clauseAt T R j)
+  profile-clause a b j p ea eb e = e ∙ ap₂ (λ (x y : ℕ). profileOf (relationsIn T x y)) ea eb
+
+  pub profile-pair : (a b c d j k p q r : ℕ) → a ≡ startAt R j → b ≡ min (getD R j 0) 320 → c ≡ startAt R k → d ≡ min (getD R k 0) 320 → p ≡ profileOf (clauseAt T R j) → q ≡ profileOf (clauseAt T R k) → r ≡ bitAnd p q
+      → r ≡ profileOf (relationsIn T a b ++ relationsIn T c d)
+  profile-pair a b c d j k p q r ea eb ec ed ep eq e =
+      e ∙ ap₂ bitAnd ep eq ∙ profile-join (clauseAt T R j) (clauseAt T R k)
+      ∙ sym (ap profileOf (ap₂ _++_ (ap₂ (relationsIn T) ea eb) (ap₂ (relationsIn T) ec ed)))
+
+  pub profiled-none : (profiles : List ℕ) → Profiled T R profiles 0
+  profiled-none profiles j h = absurd (omega arith)
+
+  pub profiled-more : (before after : List ℕ) (j p : ℕ) → Profiled T R before j → p ≡ profileOf (clauseAt T R j) → getD after j 0 ≡ p → ((k : ℕ) → (k ≡ j → ⊥) → getD after k 0 ≡ getD before k 0) → Profiled T R after (j + 1)
+  profiled-more before after j p f e here rest k h =
+      elim (ℕ-discrete k j) [
+        | yes g ↦ subst (λ (x : ℕ). getD after x 0 ≡ profileOf (clauseAt T R x)) (sym g) (here ∙ e)
+        | no n ↦ rest k n ∙ f k (omega arith)
+      ]
+
+  pub profiled-rules : (clauses : List ℕ) (n end : ℕ) (profiles : List ℕ) → Profiled T R profiles end → ((p : ℕ) → p < n → min (getD clauses p 0) 40 ≤ end) → ProfiledRules T R clauses n profiles
+  profiled-rules clauses n end profiles f l p h j k = f j (omega (arith, l p h))
+
+-- the most clauses that a rule reaches
+pub reaches-none : (clauses : List ℕ) (p : ℕ) → p < 0 → min (getD clauses p 0) 40 ≤ 0
+reaches-none clauses p h = absurd (omega arith)
+
+pub reaches-more : (clauses : List ℕ) (n end e m : ℕ) → ((p : ℕ) → p < n → min (getD clauses p 0) 40 ≤ end) → e ≡ min (getD clauses n 0) 40 → m ≡ max end e → (p : ℕ) → p < n + 1 → min (getD clauses p 0) 40 ≤ m
+reaches-more clauses n end e m f g h p k =
+    ⊎-elim (λ a. omega (arith, f p a)) (λ a. subst (λ (x : ℕ). min (getD clauses x 0) 40 ≤ m) (let z : n ≡ p = omega arith in z) (omega arith)) (split p n)

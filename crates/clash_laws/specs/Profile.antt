@@ -3,12 +3,13 @@
 use mathlib.Core.Path.{_≡_}
 use mathlib.Core.Bool.{Bool, not}
 use mathlib.Core.List.{List}
-use Prim.Native.Nat.{ℕ, suc, _+_, _*_, _/_, _%_, _^_, _≤_}
+use Prim.Native.Nat.{ℕ, suc, _+_, _*_, _/_, _%_, _^_, _≤_, _<_, min}
 use lib.Dec.{eqb}
+use lib.ListN.{getD}
 use Rattle.decimal.specs.Choice.{if_then_else_, both}
 use Rattle.number.specs.Limits.{maxExponent, maxPlaces}
 use Rattle.rules.specs.Syntax.{Relation}
-use Rattle.rules.specs.Stretch.{stretch}
+use Rattle.rules.specs.Stretch.{stretch, Table, clauseAt}
 use Rattle.plural.specs.Meaning.{all}
 use Rattle.plural.specs.Select.{maskOf}
 use Rattle.clash_laws.specs.Fast.{passes, queryT, settledE, settledV, settledW, settledF}
@@ -44,3 +45,13 @@ marked m k = eqb (m / 2 ^ k % 2) 1
 -- v and w are settled where both are marked
 pub record Settled (c : List Relation) (vs ws : ℕ) : Type 0 where
   pub says : (v w : ℕ) → v ≤ maxPlaces → w ≤ maxPlaces → all (settledF v w) c ≡ both (marked vs v) (marked ws w)
+
+-- ---- the profiles of a pack's clauses
+
+-- the array holds those of the first `end` clauses
+abbrev pub Profiled : Table → List ℕ → List ℕ → ℕ → Type 0
+Profiled T relations profiles end = (j : ℕ) → j < end → getD profiles j 0 ≡ profileOf (clauseAt T relations j)
+
+-- and so those of the clauses of the first n rules
+abbrev pub ProfiledRules : Table → List ℕ → List ℕ → ℕ → List ℕ → Type 0
+ProfiledRules T relations clauses n profiles = (p : ℕ) → p < n → Profiled T relations profiles (min (getD clauses p 0) 40)
