@@ -33,8 +33,8 @@ fn fill_level<'a>(
     s: Span,
     q: Query,
     tiers: &[usize; 16],
-    starts: &mut [u64; 288],
-    ends: &mut [u64; 288],
+    starts: &mut [u32; 288],
+    ends: &mut [u32; 288],
     at: &[usize; 8],
     j: usize,
     m: u64,
@@ -77,8 +77,8 @@ fn fill_level<'a>(
         if ROOM <= n {
             return ROOM + 1;
         }
-        starts[n] = f.at;
-        ends[n] = f.stop - 1;
+        starts[n] = f.at as u32;
+        ends[n] = (f.stop - 1) as u32;
         n += 1;
         p = f.stop;
     }
@@ -97,8 +97,8 @@ fn add_level<'a>(
     q: Query,
     tiers: &[usize; 16],
     on: bool,
-    starts: &mut [u64; 288],
-    ends: &mut [u64; 288],
+    starts: &mut [u32; 288],
+    ends: &mut [u32; 288],
     at: &mut [usize; 8],
     j: usize,
     m: u64,
@@ -152,8 +152,8 @@ pub fn build<'a>(
     q: Query,
     tiers: &[usize; 16],
     asked: &[bool; 9],
-    starts: &mut [u64; 288],
-    ends: &mut [u64; 288],
+    starts: &mut [u32; 288],
+    ends: &mut [u32; 288],
     at: &mut [usize; 8],
 ) -> Built
     requires { ⌜ Fit q × (s .to ≤ 320) × (s .stop ≤ 320) × (sizeOf s ≤ 16) × Told (table (now operand) (now modulus) (now negated) (now ranges) (now low) (now high)) s q (now tiers) ⌝ }

@@ -154,9 +154,6 @@ module _ (q : Query) (r : Relation) (s : ℕ) (e : s ≡ factor q (r .operand)) 
   pub unasked-run : (j p : ℕ) → p < far → s ≡ 0 → Alike (ownOne q j r) p true far
   unasked-run j p h z = alike-all h (λ x. own-unasked j x z)
 
-  pub other-run : (l j p : ℕ) → p < far → (s ≡ 0 → ⊥) → l ≡ levelOf s (r .modulus) → (l ≡ j → ⊥) → Alike (ownOne q j r) p true far
-  other-run l j p h n f d = alike-all h (λ x. own-other l j x n f d)
-
 -- one of another level asks nothing there
 pub tier-other : (q : Query) (r : Relation) (t j x : ℕ) → t ≡ tier q r → (t ≡ j → ⊥) → ownOne q j r x ≡ true
 unfolding ownOne tier
@@ -166,6 +163,11 @@ tier-other q r t j x e d =
     let h = both-held (asked q r) (eqb (levelIn q r) j) u in
     absurd (d (e ∙ rw (h .0) (eqb-true (levelIn q r) j (h .1)))))
     (λ u. refl)
+
+-- the level that is told of one that is asked
+pub tier-level : (q : Query) (r : Relation) (s j : ℕ) → s ≡ factor q (r .operand) → (s ≡ 0 → ⊥) → j ≡ tier q r → j ≡ levelOf s (r .modulus)
+unfolding tier
+tier-level q r s j e n t = t ∙ rw (ne-eqb (factor q (r .operand)) 0 (λ z. n (e ∙ z))) (ap (λ (x : ℕ). levelOf x (r .modulus)) (sym e))
 
 -- ---- a run of multiples
 

@@ -16,10 +16,6 @@ use Rattle.runs.specs.declared.Run.{Run}
 abbrev pub far : ℕ
 far = 4_000_000_000_000_000_000
 
--- past the ranges so far that hold y, and the range a..b; 0 where none does
-unfoldable pub endWith : ℕ → ℕ → ℕ → ℕ → ℕ
-endWith end a b y = if ltb y a then end else if ltb b y then end else max end (b + 1)
-
 -- the least start above y of those so far, and of a range from a on
 unfoldable pub nextWith : ℕ → ℕ → ℕ → ℕ
 nextWith next a y = if ltb y a then min next a else next

@@ -11,7 +11,7 @@ ghost use Rattle.clash_laws.specs.Fast.{ends, passesAll};
 ghost use Rattle.clash_laws.specs.Levels.{ownOne, lastDigit, own};
 ghost use Rattle.clash_laws.specs.Read.{joinedIn};
 ghost use Rattle.clash_laws.specs.Ready.{Fit, Room};
-ghost use Rattle.runs.specs.Kept.{sizeOf, placeOf, Told, Kept};
+ghost use Rattle.runs.specs.Kept.{sizeOf, placeOf, tier, Told, Kept};
 ghost use Rattle.runs.specs.Runs.{far, joinedRun};
 use crate::FAR;
 use crate::Run;
@@ -112,7 +112,7 @@ fn run_at<'a>(
 ) -> Run
     requires { ⌜ Fit q ⌝ }
     requires { ⌜ Room q p ⌝ }
-    requires { ⌜ (s .to ≤ 320) × (s .stop ≤ 320) × (k < sizeOf s) × (k < 16) ⌝ }
+    requires { ⌜ (s .to ≤ 320) × (s .stop ≤ 320) × (k < sizeOf s) × (k < 16) × (level ≡ tier q (relationAt (table (now operand) (now modulus) (now negated) (now ranges) (now low) (now high)) (placeOf s k))) ⌝ }
     requires { ⌜ Kept (table (now operand) (now modulus) (now negated) (now ranges) (now low) (now high)) s q level p (now says) (now stop) ⌝ }
     ensures { λ r. ⌜ Alike (ownOne q level (relationAt (table (now (operand .entry)) (now (modulus .entry)) (now (negated .entry)) (now (ranges .entry)) (now (low .entry)) (now (high .entry))) (placeOf s k))) p (r .says) (r .stop) ⌝ }
     ensures { λ _. ⌜ Kept (table (now (operand .entry)) (now (modulus .entry)) (now (negated .entry)) (now (ranges .entry)) (now (low .entry)) (now (high .entry))) s q level p (now (says .exit)) (now (stop .exit)) ⌝ }

@@ -6,7 +6,7 @@
 // at one value, clause_run and passes_at of module clause, and mark_levels of module marks.
 pub mod clause;
 pub mod marks;
-mod range;
+pub mod range;
 pub mod relation;
 
 ghost use mathlib.Core.Path.{_≡_};

@@ -11,6 +11,7 @@ ghost use Rattle.clash_laws.specs.Fast.{listed, test, factor, passes};
 ghost use Rattle.clash_laws.specs.Levels.{levelOf, ownOne};
 ghost use Rattle.clash_laws.specs.Read.{cap};
 ghost use Rattle.clash_laws.specs.Ready.{Fit, Room};
+ghost use Rattle.runs.specs.Kept.{tier};
 ghost use Rattle.runs.specs.Runs.{far, upwards};
 use crate::FAR;
 use crate::Run;
@@ -165,7 +166,7 @@ fn upwards_by(y: u64, s: u64) -> u64
     (y + (s - 1)) / s
 }
 
-// What the relation j asks of p at a level. Where it is not asked there, nothing ends the run.
+// What the relation j asks of p at its level. Where it is not asked, nothing ends the run.
 pub fn own_run<'a>(
     operand: &'a [u8; 320],
     modulus: &'a [u32; 320],
@@ -180,19 +181,12 @@ pub fn own_run<'a>(
 ) -> Run
     requires { ⌜ Fit q ⌝ }
     requires { ⌜ Room q p ⌝ }
-    requires { ⌜ j < 320 ⌝ }
+    requires { ⌜ (j < 320) × (level ≡ tier q (relationAt (table (now operand) (now modulus) (now negated) (now ranges) (now low) (now high)) j)) ⌝ }
     ensures { λ r. ⌜ Alike (ownOne q level (relationAt (table (now (operand .entry)) (now (modulus .entry)) (now (negated .entry)) (now (ranges .entry)) (now (low .entry)) (now (high .entry))) j)) p (r .says) (r .stop) ⌝ }
     ensures { λ r. ⌜ r .stop ≤ far ⌝ }
 {
     let s = factor_of(q, operand[j]);
     if s == 0 {
-        return Run {
-            says: true,
-            stop: FAR,
-        };
-    }
-    let l = level_of(s, range::wide(modulus[j]));
-    if l != level {
         return Run {
             says: true,
             stop: FAR,

@@ -1,6 +1,7 @@
 -- `runs::clause::run_there`: a relation of another level says yes of all numbers; else its run is looked for.
 use Rattle.rules.specs.Stretch.{table}
 use Rattle.runs.proofs.Keeping.{other-there}
+use mathlib.Core.Path.{sym, _∙_}
 use borrow.Author.Needs.{needs}
 use Rattle.runs.proofs.clause.run_there.Statement.{statement}
 use Rattle.runs.proofs.clause.run_there.Tie as tie
@@ -21,7 +22,7 @@ returns c =
 run-at-requires : tie.Need-run-at-requires
 run-at-requires c κs =
     let p = c .before .before .before .before .pre in
-    (p .0, (p .1 .0, ((p .1 .1 .0 .0, p .1 .1 .0 .1, p .1 .1 .0 .2, p .1 .1 .0 .3), p .1 .1 .1)))
+    (p .0, (p .1 .0, ((p .1 .1 .0 .0, p .1 .1 .0 .1, p .1 .1 .0 .2, p .1 .1 .0 .3, sym (search needs) ∙ p .1 .1 .0 .4 (c .before .before .before .before .args .k) (p .1 .1 .0 .2)), p .1 .1 .1)))
 
 returns-2 : tie.Need-returns-2
 returns-2 c = (c .run-at .ensures .0, c .run-at .ensures .1)
