@@ -14,6 +14,8 @@ use crate::Built;
 use crate::find;
 use clash_laws::Query;
 use clash_laws::Span;
+use runs::clause::size_of;
+use runs::marks::list_level;
 
 // How many segments a table has room for.
 const ROOM: usize = 288;
@@ -48,6 +50,8 @@ fn fill_level<'a>(
 {
     let mut says = [false; 16];
     let mut stop: [u64; 16] = [0; 16];
+    let mut list: [usize; 16] = [0; 16];
+    let count = list_level(tiers, size_of(s), j, &mut list);
     let mut n = at[j];
     let mut p: u64 = 0;
     while p < m {
@@ -60,7 +64,8 @@ fn fill_level<'a>(
             high,
             s,
             q,
-            tiers,
+            &list,
+            count,
             j,
             starts,
             ends,

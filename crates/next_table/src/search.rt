@@ -20,6 +20,7 @@ use runs::clause::clause_run;
 use runs::clause::ends_of;
 use runs::clause::passes_at;
 use runs::clause::size_of;
+use runs::marks::list_level;
 use runs::marks::mark_levels;
 
 // How many relations of a clause have room for what is kept of each.
@@ -77,6 +78,8 @@ fn in_window<'a>(
     requires { ⌜ Fit q × Room q hi × (lo ≤ hi) × (s .to ≤ 320) × (s .stop ≤ 320) × (sizeOf s ≤ 16) × Told (table (now operand) (now modulus) (now negated) (now ranges) (now low) (now high)) s q (now tiers) ⌝ }
     ensures { λ r. ⌜ Least (own q (joinedIn (table (now (operand .entry)) (now (modulus .entry)) (now (negated .entry)) (now (ranges .entry)) (now (low .entry)) (now (high .entry))) s) window) lo hi r ⌝ }
 {
+    let mut list: [usize; 16] = [0; 16];
+    let count = list_level(tiers, size_of(s), WINDOW, &mut list);
     let mut says = [false; 16];
     let mut stop: [u64; 16] = [0; 16];
     let mut p = lo;
@@ -90,7 +93,8 @@ fn in_window<'a>(
             high,
             s,
             q,
-            tiers,
+            &list,
+            count,
             WINDOW,
             p,
             &mut says,
@@ -127,6 +131,8 @@ fn by_table<'a>(
     requires { ⌜ Tabled (below q (joinedIn (table (now operand) (now modulus) (now negated) (now ranges) (now low) (now high)) s)) (now starts) (now ends) (now at) levels ⌝ }
     ensures { λ r. ⌜ Least (passesAll q (joinedIn (table (now (operand .entry)) (now (modulus .entry)) (now (negated .entry)) (now (ranges .entry)) (now (low .entry)) (now (high .entry))) s)) lo hi r ⌝ }
 {
+    let mut list: [usize; 16] = [0; 16];
+    let count = list_level(tiers, size_of(s), WINDOW, &mut list);
     let mut says = [false; 16];
     let mut stop: [u64; 16] = [0; 16];
     let f = find::find(
@@ -138,7 +144,8 @@ fn by_table<'a>(
         high,
         s,
         q,
-        tiers,
+        &list,
+        count,
         WINDOW,
         starts,
         ends,

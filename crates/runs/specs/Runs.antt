@@ -24,13 +24,6 @@ nextWith next a y = if ltb y a then min next a else next
 unfoldable pub upwards : ℕ → ℕ → ℕ
 upwards y s = if eqb s 1 then y else (y + (s - 1)) / s
 
--- of two runs that begin at one number, the run of both tests together
-unfoldable pub joinedRun : Run → Run → Run
-joinedRun a b =
-    if a .says then (if b .says then record { says = true; stop = min (a .stop) (b .stop) } else b) else
-    if b .says then a else
-    record { says = false; stop = max (a .stop) (b .stop) }
-
 -- the level of a relation that is asked is marked
 abbrev pub Noted : Query → Relation → List Bool → Type 0
 Noted q r marks = asked q r ≡ true → getD marks (levelIn q r) false ≡ true
