@@ -231,3 +231,7 @@ under-shared c l a i u e f h =
 pub floor-past : (c : List Relation) (w : Bool) (e f : ℕ) → e ≤ maxExponent → NoneBelow (queryI w) c f → 10 ^ maxDigits ≤ f → 10 ^ maxDigits ≡ integerOf w e c
 unfolding integerOf
 floor-past c w e f h n l = search-past (queryI w) c (lowest e) (10 ^ maxDigits) f (max (lowest e) f) n refl (lowest-le e h) (omega arith)
+
+pub tail-past : (c : List Relation) (f : ℕ) → NoneBelow alone c f → 10 ^ maxPlaces ≤ f → 10 ^ maxPlaces ≡ aloneOf c
+unfolding aloneOf
+tail-past c f n l = search-past alone c 0 (10 ^ maxPlaces) f (max 0 f) n refl (omega arith) (omega arith)

@@ -197,9 +197,10 @@ gathered-next tiers level list n k m o g h e f =
     (λ t. gathered-same tiers level list n k g h m t (f ∙ ap (λ (x : ℕ). n + x) (e ∙ rw t)))
 
 module _ (T : Table) (s : Span) (q : Query) (j : ℕ) where
-  pub gathered-listed : (tiers list : List ℕ) (n k : ℕ) → Told T s q tiers → k ≡ sizeOf s → k ≤ 16 → Gathered tiers j list n k → Listed T s q j list n
-  gathered-listed tiers list n k t e h g =
+  pub gathered-listed : (tiers list : List ℕ) (n k : ℕ) → j < 9 → Told T s q tiers → k ≡ sizeOf s → k ≤ 16 → Gathered tiers j list n k → Listed T s q j list n
+  gathered-listed tiers list n k v t e h g =
       record {
+        level = v;
         few = omega (arith, g .few);
         each = λ i l. let a = g .each i l in (omega (arith, a .0), sym (a .1) ∙ t (getD list i 0) (omega (arith, a .0)));
         covers = λ x f m l.

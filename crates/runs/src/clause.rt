@@ -91,7 +91,7 @@ fn run_at<'a>(
 ) -> Run
     requires { ⌜ Fit q ⌝ }
     requires { ⌜ Room q p ⌝ }
-    requires { ⌜ (s .to ≤ 320) × (s .stop ≤ 320) × (k < sizeOf s) × (k < 16) × (level ≡ tier q (relationAt (table (now operand) (now modulus) (now negated) (now ranges) (now low) (now high)) (placeOf s k))) ⌝ }
+    requires { ⌜ (s .to ≤ 320) × (s .stop ≤ 320) × (k < sizeOf s) × (k < 16) × (level < 9) × (level ≡ tier q (relationAt (table (now operand) (now modulus) (now negated) (now ranges) (now low) (now high)) (placeOf s k))) ⌝ }
     requires { ⌜ Kept (table (now operand) (now modulus) (now negated) (now ranges) (now low) (now high)) s q level p (now says) (now stop) ⌝ }
     ensures { λ r. ⌜ Alike (ownOne q level (relationAt (table (now (operand .entry)) (now (modulus .entry)) (now (negated .entry)) (now (ranges .entry)) (now (low .entry)) (now (high .entry))) (placeOf s k))) p (r .says) (r .stop) ⌝ }
     ensures { λ _. ⌜ Kept (table (now (operand .entry)) (now (modulus .entry)) (now (negated .entry)) (now (ranges .entry)) (now (low .entry)) (now (high .entry))) s q level p (now (says .exit)) (now (stop .exit)) ⌝ }

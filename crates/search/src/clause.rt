@@ -101,7 +101,8 @@ fn spot_of(e: u64, q: u64, i: u64) -> Witness
     }
 }
 
-// The least number at e whose f is not 0. There is no search for f where there is no i.
+// The least number at e whose f is not 0. There is no search where the floor leaves no t, and none for f
+// where there is no i.
 fn part_spot<'a>(
     operand: &'a [u8; 320],
     modulus: &'a [u32; 320],
@@ -120,6 +121,9 @@ fn part_spot<'a>(
     ensures { λ r. ⌜ (spotRank r ≡ kindSpot false e (bounded b (joinedIn (table (now (operand .entry)) (now (modulus .entry)) (now (negated .entry)) (now (ranges .entry)) (now (low .entry)) (now (high .entry))) s))) × Proper r ⌝ }
 {
     if !places::opens(profile::v_of(p), profile::w_of(p)) {
+        return order::nowhere();
+    }
+    if limits::FRACTION_LIMIT <= l.tail {
         return order::nowhere();
     }
     let i = integer_of(

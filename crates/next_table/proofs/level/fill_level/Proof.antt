@@ -37,7 +37,7 @@ loop-holds : tie.Need-loop-holds Inv-loop μ-loop
 loop-holds c = let a = c .before .before .before .before .args in let T = table (a .operand .now) (a .modulus .now) (a .negated .now) (a .ranges .now) (a .low .now) (a .high .now) in let p = c .before .before .before .before .pre in (filling-start (a .m) (p .1 .0) (p .1 .1), kept-fresh T (a .s) (a .q) (a .j) 0)
 
 find-requires : tie.Need-find-requires Inv-loop μ-loop
-find-requires c κs = let a = c .before .before .before .before .before .before .before .before .before .before .before .args in let T = table (a .operand .now) (a .modulus .now) (a .negated .now) (a .ranges .now) (a .low .now) (a .high .now) in let p = c .before .before .before .before .before .before .before .before .before .before .before .pre in let i = c .before .before .before .before .before .before .loop .inv in ((p .0 .0, fit-room (a .q) (a .m) (p .0 .0) (omega (arith, level-small (a .j) (a .m) (p .0 .4) (p .0 .5))), i .0 .reach, p .0 .1, p .0 .2, p .0 .3, gathered-listed T (a .s) (a .q) (a .j) (a .tiers .now) (c .before .before .before .before .before .before .before .before .list-level .last .1 .1 .1 .0) (c .before .before .before .before .before .before .before .before .list-level .result) (c .before .before .before .before .before .before .before .before .before .before .size-of .result) (p .0 .6) (c .before .before .before .before .before .before .before .before .before .before .size-of .ensures) (omega (arith, c .before .before .before .before .before .before .before .before .before .before .size-of .ensures, p .0 .3)) (c .before .before .before .before .before .before .before .before .list-level .ensures)), (i .0 .laid, (i .0 .tabled, i .1)))
+find-requires c κs = let a = c .before .before .before .before .before .before .before .before .before .before .before .args in let T = table (a .operand .now) (a .modulus .now) (a .negated .now) (a .ranges .now) (a .low .now) (a .high .now) in let p = c .before .before .before .before .before .before .before .before .before .before .before .pre in let i = c .before .before .before .before .before .before .loop .inv in ((p .0 .0, fit-room (a .q) (a .m) (p .0 .0) (omega (arith, level-small (a .j) (a .m) (p .0 .4) (p .0 .5))), i .0 .reach, p .0 .1, p .0 .2, p .0 .3, gathered-listed T (a .s) (a .q) (a .j) (a .tiers .now) (c .before .before .before .before .before .before .before .before .list-level .last .1 .1 .1 .0) (c .before .before .before .before .before .before .before .before .list-level .result) (c .before .before .before .before .before .before .before .before .before .before .size-of .result) (omega (arith, p .0 .4)) (p .0 .6) (c .before .before .before .before .before .before .before .before .before .before .size-of .ensures) (omega (arith, c .before .before .before .before .before .before .before .before .before .before .size-of .ensures, p .0 .3)) (c .before .before .before .before .before .before .before .before .list-level .ensures)), (i .0 .laid, (i .0 .tabled, i .1)))
 
 returns : tie.Need-returns Inv-loop μ-loop
 returns c = let p = c .before .before .before .before .before .before .before .before .before .before .before .before .before .before .pre in let i = c .before .before .before .before .before .before .before .before .before .loop .inv in (i .0 .laid, (i .0 .tabled, λ _. rw (p .0 .5) at (filling-done (i .0) (c .before .before .find .ensures .0) (c .if1 .taken))))

@@ -32,7 +32,7 @@ loop-holds : tie.Need-loop-holds Inv-loop μ-loop
 loop-holds c = let a = c .before .before .before .args in let T = table (a .operand .now) (a .modulus .now) (a .negated .now) (a .ranges .now) (a .low .now) (a .high .now) in (passed-start (own (a .q) (joinedIn T (a .s)) window) (a .lo) (a .hi) (a .lo), kept-fresh T (a .s) (a .q) window (a .lo))
 
 clause-run-requires : tie.Need-clause-run-requires Inv-loop μ-loop
-clause-run-requires c κs = let a = c .before .before .before .before .before .before .before .before .args in let T = table (a .operand .now) (a .modulus .now) (a .negated .now) (a .ranges .now) (a .low .now) (a .high .now) in let p = c .before .before .before .before .before .before .before .before .pre in let i = c .before .before .before .before .loop .inv in let x = joinedIn T (a .s) in (p .0, (room-le (a .q) (c .before .before .before .before .loop .p) (a .hi) (p .1) (omega (arith, c .before .before .before .loop-test .taken)), ((p .3, p .4, p .5, gathered-listed T (a .s) (a .q) window (a .tiers .now) (c .before .before .before .before .before .list-level .last .1 .1 .1 .0) (c .before .before .before .before .before .list-level .result) (c .before .before .before .before .before .before .before .size-of .result) (p .6) (c .before .before .before .before .before .before .before .size-of .ensures) (omega (arith, c .before .before .before .before .before .before .before .size-of .ensures, p .5)) (c .before .before .before .before .before .list-level .ensures)), i .1)))
+clause-run-requires c κs = let a = c .before .before .before .before .before .before .before .before .args in let T = table (a .operand .now) (a .modulus .now) (a .negated .now) (a .ranges .now) (a .low .now) (a .high .now) in let p = c .before .before .before .before .before .before .before .before .pre in let i = c .before .before .before .before .loop .inv in let x = joinedIn T (a .s) in (p .0, (room-le (a .q) (c .before .before .before .before .loop .p) (a .hi) (p .1) (omega (arith, c .before .before .before .loop-test .taken)), ((p .3, p .4, p .5, gathered-listed T (a .s) (a .q) window (a .tiers .now) (c .before .before .before .before .before .list-level .last .1 .1 .1 .0) (c .before .before .before .before .before .list-level .result) (c .before .before .before .before .before .before .before .size-of .result) (omega arith) (p .6) (c .before .before .before .before .before .before .before .size-of .ensures) (omega (arith, c .before .before .before .before .before .before .before .size-of .ensures, p .5)) (c .before .before .before .before .before .list-level .ensures)), i .1)))
 
 returns : tie.Need-returns Inv-loop μ-loop
 returns c = let a = c .before .before .before .before .before .before .before .before .before .before .args in let T = table (a .operand .now) (a .modulus .now) (a .negated .now) (a .ranges .now) (a .low .now) (a .high .now) in let p = c .before .before .before .before .before .before .before .before .before .before .pre in let i = c .before .before .before .before .before .before .loop .inv in let x = joinedIn T (a .s) in let r = c .before .clause-run .ensures .0 in passed-hit (own (a .q) x window) (a .lo) (a .hi) (c .before .before .before .before .before .before .loop .p) (i .0) (c .before .before .before .before .before .loop-test .taken) (r .same (c .before .before .before .before .before .before .loop .p) (omega arith) (r .some) ∙ c .if1 .taken)

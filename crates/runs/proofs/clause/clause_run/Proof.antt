@@ -32,7 +32,7 @@ element-copy-out-run-at : tie.Need-element-copy-out-run-at Inv-loop μ-loop
 element-copy-out-run-at c = search needs
 
 run-at-requires : tie.Need-run-at-requires Inv-loop μ-loop
-run-at-requires c κs = let a = c .before .before .before .before .before .before .before .before .args in let T = table (a .operand .now) (a .modulus .now) (a .negated .now) (a .ranges .now) (a .low .now) (a .high .now) in let p = c .before .before .before .before .before .before .before .before .pre in let li = p .1 .1 .0 .3 in let l = c .before .before .before .before .loop in let e = li .each (l .i) (c .before .before .before .loop-test .taken) in (p .0, (p .1 .0, ((p .1 .1 .0 .0, p .1 .1 .0 .1, e .0, omega (arith, e .0, p .1 .1 .0 .2), e .1), l .inv .1)))
+run-at-requires c κs = let a = c .before .before .before .before .before .before .before .before .args in let T = table (a .operand .now) (a .modulus .now) (a .negated .now) (a .ranges .now) (a .low .now) (a .high .now) in let p = c .before .before .before .before .before .before .before .before .pre in let li = p .1 .1 .0 .3 in let l = c .before .before .before .before .loop in let e = li .each (l .i) (c .before .before .before .loop-test .taken) in (p .0, (p .1 .0, ((p .1 .1 .0 .0, p .1 .1 .0 .1, e .0, omega (arith, e .0, p .1 .1 .0 .2), li .level, e .1), l .inv .1)))
 
 lesser-requires : tie.Need-lesser-requires Inv-loop μ-loop
 lesser-requires c κs = search needs

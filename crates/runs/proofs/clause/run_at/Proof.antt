@@ -37,7 +37,7 @@ own-run-requires c κs =
     let a = c .before .before .before .before .before .before .before .before .args in
     let p = c .before .before .before .before .before .before .before .before .pre in
     let T = table (a .operand .now) (a .modulus .now) (a .negated .now) (a .ranges .now) (a .low .now) (a .high .now) in
-    (p .0, (p .1 .0, (c .place-of .ensures .1, p .1 .1 .0 .4 ∙ ap (λ (j : ℕ). tier (a .q) (relationAt T j)) (sym (c .place-of .ensures .0)))))
+    (p .0, (p .1 .0, (c .place-of .ensures .1, p .1 .1 .0 .4, p .1 .1 .0 .5 ∙ ap (λ (j : ℕ). tier (a .q) (relationAt T j)) (sym (c .place-of .ensures .0)))))
 
 element-write-says : tie.Need-element-write-says
 element-write-says c = search needs
