@@ -18,7 +18,7 @@ use Rattle.plural.specs.Meaning.{all}
 use Rattle.least.specs.Seek.{seek}
 use Rattle.least.proofs.Seeking.{split, and-true, seek-least}
 use Rattle.clash_laws.specs.Fast.{factor, test, passes, ends, passesAll, queryT, queryF, leastF, search, settledF, fractions, tailOf, tailPlaces, tailCode, partCode}
-use Rattle.clash_laws.specs.Profile.{marked, Settled, roomFor}
+use Rattle.clash_laws.specs.Profile.{marked, Settled, leastRoom}
 use Rattle.clash_laws.proofs.Placing.{sought, tail-room}
 use Rattle.clash_laws.proofs.Searched.{both-held, search-least}
 
@@ -66,7 +66,7 @@ module _ (c : List Relation) (vs ws : ℕ) (s : Settled c vs ws) where
   F = leastF c
 
   U : ℕ
-  U = roomFor vs F
+  U = leastRoom vs F
 
   -- a v with the t that is found before k zeros
   module _ (k : ℕ) (hk : k < maxPlaces) (v : ℕ) (low : k < v) (high : v ≤ maxPlaces) where
@@ -94,7 +94,7 @@ module _ (c : List Relation) (vs ws : ℕ) (s : Settled c vs ws) where
         ⊎-elim (λ z. not-both (all-f k (tailOf k c) c p) (l .none (tailOf k c * 10 ^ k) (omega arith) z)) (λ z. z) (split (tailOf k c * 10 ^ k) F)
 
     v-after : tailOf k c < 10 ^ (v - k) → all (settledF v (v - k)) c ≡ true → U ≤ v
-    unfolding U roomFor
+    unfolding U leastRoom
     v-after h a =
         let l = seek-least (λ v. both (marked vs v) (ltb F (10 ^ v))) maxPlaces 1 in
         let m = both-held (marked vs v) (marked ws (v - k)) (sym (s .says v (v - k) high (omega arith)) ∙ a) in
@@ -154,10 +154,10 @@ module _ (c : List Relation) where
 
 -- ---- what the code tests
 
-module _ (c : List Relation) (vs ws : ℕ) (s : Settled c vs ws) (f u : ℕ) (is-f : f ≡ leastF c) (is-u : u ≡ roomFor vs f) where
+module _ (c : List Relation) (vs ws : ℕ) (s : Settled c vs ws) (f u : ℕ) (is-f : f ≡ leastF c) (is-u : u ≡ leastRoom vs f) where
   same-u : u ≡ U c vs ws s
   unfolding U F
-  same-u = is-u ∙ ap (roomFor vs) is-f
+  same-u = is-u ∙ ap (leastRoom vs) is-f
 
   same-f : f ≡ F c vs ws s
   unfolding F
@@ -191,6 +191,6 @@ pub f-most : (f : ℕ) (c : List Relation) → f ≡ leastF c → f ≤ 10 ^ max
 unfolding leastF
 f-most f c e = omega (arith, search-least queryF c 1 (10 ^ maxPlaces) (omega arith) .high)
 
-pub room-is : (r vs f : ℕ) → r ≡ seek (λ v. both (marked vs v) (ltb f (10 ^ v))) maxPlaces 1 → r ≡ roomFor vs f
-unfolding roomFor
+pub room-is : (r vs f : ℕ) → r ≡ seek (λ v. both (marked vs v) (ltb f (10 ^ v))) maxPlaces 1 → r ≡ leastRoom vs f
+unfolding leastRoom
 room-is r vs f h = h

@@ -48,8 +48,8 @@ pub record Settled (c : List Relation) (vs ws : ℕ) : Type 0 where
   pub says : (v w : ℕ) → v ≤ maxPlaces → w ≤ maxPlaces → all (settledF v w) c ≡ both (marked vs v) (marked ws w)
 
 -- the least v other than 0 that is marked and has room for f
-unfoldable pub roomFor : ℕ → ℕ → ℕ
-roomFor vs f = seek (λ v. both (marked vs v) (ltb f (10 ^ v))) maxPlaces 1
+unfoldable pub leastRoom : ℕ → ℕ → ℕ
+leastRoom vs f = seek (λ v. both (marked vs v) (ltb f (10 ^ v))) maxPlaces 1
 
 -- ---- the profiles of a pack's clauses
 

@@ -10,7 +10,7 @@ ghost use Rattle.rules.specs.Syntax.{Relation};
 ghost use Rattle.plural.specs.Meaning.{all};
 ghost use Rattle.least.specs.Seek.{seek};
 ghost use Rattle.clash_laws.specs.Fast.{settledF, wholeCode, partCode, tailPlaces, fractions};
-ghost use Rattle.clash_laws.specs.Profile.{profileOf, marked, Settled, roomFor};
+ghost use Rattle.clash_laws.specs.Profile.{profileOf, marked, Settled, leastRoom};
 use crate::limits;
 use crate::limits::power;
 
@@ -122,7 +122,7 @@ fn has_room(vs: u64, f: u64, v: u64) -> bool
 
 // The least such v other than 0.
 pub fn least_room(vs: u64, f: u64) -> u64
-    ensures { λ r. ⌜ (r ≡ roomFor vs f) × (r ≤ suc maxPlaces) ⌝ }
+    ensures { λ r. ⌜ (r ≡ leastRoom vs f) × (r ≤ suc maxPlaces) ⌝ }
 {
     let mut v: u64 = 1;
     while v <= limits::MAX_PLACES {
