@@ -15,7 +15,7 @@ use Rattle.plural.specs.Meaning.{all, inRange, clauseHolds}
 use Rattle.least.proofs.Seeking.{and-false-left, least-one, seek-least}
 use Rattle.clash_laws.specs.Bounded.{fromTo, withinPlaces, placesBetween, bounded}
 use Rattle.clash_laws.specs.Check.{lowest, admits, numberAt, ranked, ranks, found, leastRank}
-use Rattle.clash_laws.specs.Fast.{Query, factor, listed, test, passes, passesAll, queryT, search, ofExponent, settledE, settledV, settledW, settledF, exponentOf, alone, aloneOf, tailOf, integerOf, clauseRank}
+use Rattle.clash_laws.specs.Fast.{Query, factor, listed, test, passes, passesAll, queryT, search, ofExponent, settledE, settledV, settledW, settledF, exponentOf, alone, aloneOf, queryF, leastF, tailOf, integerOf, clauseRank}
 use Rattle.clash_laws.specs.declared.Bounds.{Bounds}
 use Rattle.clash_laws.proofs.FastIs.{lowest-le, least-same, clause-least}
 use Rattle.clash_laws.proofs.Searched.{search-least}
@@ -67,6 +67,10 @@ module _ (b : Bounds) where
     pub bounded-alone : aloneOf c ≡ aloneOf (bounded b c)
     unfolding aloneOf
     bounded-alone = bounded-search alone 0 (10 ^ maxPlaces) (omega arith)
+
+    pub bounded-f : leastF c ≡ leastF (bounded b c)
+    unfolding leastF
+    bounded-f = bounded-search queryF 1 (10 ^ maxPlaces) (omega arith)
 
     pub bounded-tail : (k : ℕ) → tailOf k c ≡ tailOf k (bounded b c)
     unfolding tailOf

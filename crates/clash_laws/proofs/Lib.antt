@@ -22,3 +22,4 @@ pub mod Flooring
 pub mod Bits
 pub mod Profiles
 pub mod Whole
+pub mod LeastF

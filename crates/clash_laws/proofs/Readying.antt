@@ -11,7 +11,7 @@ use Rattle.decimal.proofs.Choices.{tested, not-both}
 use Rattle.decimal.proofs.Values.{power-mono}
 use Rattle.number.specs.Limits.{maxDigits, maxPlaces}
 use Rattle.rules.specs.Stretch.{Table, relationAt}
-use Rattle.clash_laws.specs.Fast.{test, search, alone}
+use Rattle.clash_laws.specs.Fast.{test, search, alone, queryF}
 use Rattle.clash_laws.specs.Read.{cap, joinedIn}
 use Rattle.clash_laws.specs.Ready.{Room, Fit, ready, leastIn, holdsIn}
 use Rattle.clash_laws.specs.declared.Query.{Query}
@@ -125,3 +125,8 @@ integer-ready T s w n lo a b g l =
 pub alone-ready : (T : Table) (s : Span) → s .to ≤ 320 → s .stop ≤ 320 → leastIn T s alone 0 (10 ^ maxPlaces) ≡ search alone (joinedIn T s) 0 (10 ^ maxPlaces)
 alone-ready T s a b =
     least-ready T s alone 0 (10 ^ maxPlaces) (omega arith) a b (omega arith) (omega arith) (omega arith) (λ z. omega arith) (λ z. absurd (z refl))
+
+-- a search for f by what is asked of f alone
+pub f-ready : (T : Table) (s : Span) → s .to ≤ 320 → s .stop ≤ 320 → leastIn T s queryF 1 (10 ^ maxPlaces) ≡ search queryF (joinedIn T s) 1 (10 ^ maxPlaces)
+f-ready T s a b =
+    least-ready T s queryF 1 (10 ^ maxPlaces) (omega arith) a b (omega arith) (omega arith) (omega arith) (λ z. omega arith) (λ z. (omega arith, omega arith))

@@ -107,6 +107,13 @@ alone = record { n = 0; i = 0; f = 0; t = 1; odd = true }
 unfoldable pub aloneOf : List Relation → ℕ
 aloneOf c = search alone c 0 (10 ^ maxPlaces)
 
+-- the least f other than 0 by what is asked of f alone: every f is at least that
+abbrev pub queryF : Query
+queryF = record { n = 0; i = 0; f = 1; t = 0; odd = false }
+
+unfoldable pub leastF : List Relation → ℕ
+leastF c = search queryF c 1 (10 ^ maxPlaces)
+
 -- one of the relations has the operand o
 abbrev pub asksOf : ℕ → List Relation → Bool
 asksOf o c = any (λ (r : Relation). eqb (r .operand) o) c

@@ -4,7 +4,7 @@ use mathlib.Core.Path.{_≡_}
 use mathlib.Core.Bool.{Bool, not}
 use mathlib.Core.List.{List}
 use Prim.Native.Nat.{ℕ, suc, _+_, _*_, _/_, _%_, _^_, _≤_, _<_, min}
-use lib.Dec.{eqb}
+use lib.Dec.{eqb, ltb}
 use lib.ListN.{getD}
 use Rattle.decimal.specs.Choice.{if_then_else_, both}
 use Rattle.number.specs.Limits.{maxExponent, maxPlaces}
@@ -12,6 +12,7 @@ use Rattle.rules.specs.Syntax.{Relation}
 use Rattle.rules.specs.Stretch.{stretch, Table, clauseAt}
 use Rattle.plural.specs.Meaning.{all}
 use Rattle.plural.specs.Select.{maskOf}
+use Rattle.least.specs.Seek.{seek}
 use Rattle.clash_laws.specs.Fast.{passes, queryT, settledE, settledV, settledW, settledF}
 
 -- the values below n that pass a test, as bits
@@ -45,6 +46,10 @@ marked m k = eqb (m / 2 ^ k % 2) 1
 -- v and w are settled where both are marked
 pub record Settled (c : List Relation) (vs ws : ℕ) : Type 0 where
   pub says : (v w : ℕ) → v ≤ maxPlaces → w ≤ maxPlaces → all (settledF v w) c ≡ both (marked vs v) (marked ws w)
+
+-- the least v other than 0 that is marked and has room for f
+unfoldable pub leastRoom : ℕ → ℕ → ℕ
+leastRoom vs f = seek (λ v. both (marked vs v) (ltb f (10 ^ v))) maxPlaces 1
 
 -- ---- the profiles of a pack's clauses
 

@@ -1,10 +1,10 @@
 // The least v and f of a clause where f is not 0, as one number: v * 10^9 + f.
 ghost use mathlib.Core.Path.{_≡_};
-ghost use mathlib.Core.Bool.{not};
-ghost use Prim.Native.Nat.{_≤_, _<_, min};
+ghost use mathlib.Core.Bool.{false, not};
+ghost use Prim.Native.Nat.{suc, _+_, _*_, _%_, _^_, _≤_, _<_, min};
 ghost use Rattle.number.specs.Limits.{maxPlaces};
 ghost use Rattle.clash_laws.specs.Bounded.{bounded};
-ghost use Rattle.clash_laws.specs.Fast.{alone, aloneOf, asksOf, tailOf, tailCode, partCode};
+ghost use Rattle.clash_laws.specs.Fast.{alone, aloneOf, leastF, asksOf, tailOf, tailCode, partCode};
 ghost use Rattle.clash_laws.specs.Floors.{NoneBelow};
 ghost use Rattle.clash_laws.specs.Profile.{profileOf, Settled};
 ghost use Rattle.clash_laws.specs.Read.{joinedIn};
@@ -163,9 +163,8 @@ fn tail_code<'a>(
     v * limits::FRACTION_LIMIT + u * power(k)
 }
 
-// The least v and f, where f is not 0: none where no t meets what is asked of t alone. More zeros need
-// more places than one that is found may have.
-pub fn part_code<'a>(
+// The least over the zeros at the end of f. More zeros need more places than one that is found may have.
+fn least_code<'a>(
     operand: &'a [u8; 320],
     modulus: &'a [u32; 320],
     negated: &'a [bool; 320],
@@ -174,20 +173,15 @@ pub fn part_code<'a>(
     high: &'a [u32; 2048],
     s: Span,
     b: Bounds,
-    p: u64,
-    floor: u64,
+    vs: u64,
+    ws: u64,
+    t: u64,
+    spared: bool,
 ) -> u64
-    requires { ⌜ (s .to ≤ 320) × (s .stop ≤ 320) × NoneBelow alone (joinedIn (table (now operand) (now modulus) (now negated) (now ranges) (now low) (now high)) s) floor ⌝ }
-    requires { ⌜ p ≡ profileOf (bounded b (joinedIn (table (now operand) (now modulus) (now negated) (now ranges) (now low) (now high)) s)) ⌝ }
+    requires { ⌜ (s .to ≤ 320) × (s .stop ≤ 320) × (t ≡ aloneOf (joinedIn (table (now operand) (now modulus) (now negated) (now ranges) (now low) (now high)) s)) × (spared ≡ not (asksOf 102 (joinedIn (table (now operand) (now modulus) (now negated) (now ranges) (now low) (now high)) s))) ⌝ }
+    requires { ⌜ Settled (bounded b (joinedIn (table (now operand) (now modulus) (now negated) (now ranges) (now low) (now high)) s)) vs ws ⌝ }
     ensures { λ r. ⌜ r ≡ partCode maxPlaces (bounded b (joinedIn (table (now (operand .entry)) (now (modulus .entry)) (now (negated .entry)) (now (ranges .entry)) (now (low .entry)) (now (high .entry))) s)) ⌝ }
 {
-    let t = alone_of(operand, modulus, negated, ranges, low, high, s, floor);
-    if limits::FRACTION_LIMIT <= t {
-        return limits::FRACTIONS;
-    }
-    let vs = profile::v_of(p);
-    let ws = profile::w_of(p);
-    let spared = profile::spares_f(p);
     let mut best: u64 = limits::FRACTIONS;
     let mut k: u64 = 0;
     while k < limits::MAX_PLACES {
@@ -215,4 +209,175 @@ pub fn part_code<'a>(
         k += 1;
     }
     best
+}
+
+// The least f other than 0 by what is asked of f alone.
+fn least_f<'a>(
+    operand: &'a [u8; 320],
+    modulus: &'a [u32; 320],
+    negated: &'a [bool; 320],
+    ranges: &'a [usize; 320],
+    low: &'a [u32; 2048],
+    high: &'a [u32; 2048],
+    s: Span,
+) -> u64
+    requires { ⌜ (s .to ≤ 320) × (s .stop ≤ 320) ⌝ }
+    ensures { λ r. ⌜ r ≡ leastF (joinedIn (table (now (operand .entry)) (now (modulus .entry)) (now (negated .entry)) (now (ranges .entry)) (now (low .entry)) (now (high .entry))) s) ⌝ }
+{
+    let q = Query {
+        n: 0,
+        i: 0,
+        f: 1,
+        t: 0,
+        odd: false,
+    };
+    floor::least_from(
+        operand,
+        modulus,
+        negated,
+        ranges,
+        low,
+        high,
+        s,
+        q,
+        1,
+        0,
+        limits::FRACTION_LIMIT,
+    )
+}
+
+// How many zeros f ends in, or 8 where it ends in more.
+fn zeros_of(f: u64) -> u64
+    ensures { λ r. ⌜ (r < maxPlaces) × (f % 10 ^ r ≡ 0) ⌝ }
+{
+    let mut k: u64 = 0;
+    while k + 1 < limits::MAX_PLACES {
+        if f % power(k + 1) != 0 {
+            return k;
+        }
+        k += 1;
+    }
+    k
+}
+
+// v and f as one number.
+fn code_of(v: u64, f: u64) -> u64
+    requires { ⌜ (v ≤ suc maxPlaces) × (f ≤ 10 ^ maxPlaces) ⌝ }
+    ensures { λ r. ⌜ r ≡ v * 10 ^ maxPlaces + f ⌝ }
+{
+    v * limits::FRACTION_LIMIT + f
+}
+
+// The least over the zeros at the end, where f is asked. No f comes before the least by what is asked of
+// f alone, nor its v before the least with room for that. So they are a bound, and often reached: then
+// one search for t is enough.
+fn asked_code<'a>(
+    operand: &'a [u8; 320],
+    modulus: &'a [u32; 320],
+    negated: &'a [bool; 320],
+    ranges: &'a [usize; 320],
+    low: &'a [u32; 2048],
+    high: &'a [u32; 2048],
+    s: Span,
+    b: Bounds,
+    vs: u64,
+    ws: u64,
+    t: u64,
+) -> u64
+    requires { ⌜ (s .to ≤ 320) × (s .stop ≤ 320) × (t ≡ aloneOf (joinedIn (table (now operand) (now modulus) (now negated) (now ranges) (now low) (now high)) s)) × (false ≡ not (asksOf 102 (joinedIn (table (now operand) (now modulus) (now negated) (now ranges) (now low) (now high)) s))) ⌝ }
+    requires { ⌜ Settled (bounded b (joinedIn (table (now operand) (now modulus) (now negated) (now ranges) (now low) (now high)) s)) vs ws ⌝ }
+    ensures { λ r. ⌜ r ≡ partCode maxPlaces (bounded b (joinedIn (table (now (operand .entry)) (now (modulus .entry)) (now (negated .entry)) (now (ranges .entry)) (now (low .entry)) (now (high .entry))) s)) ⌝ }
+{
+    let f = least_f(operand, modulus, negated, ranges, low, high, s);
+    let v = places::least_room(vs, f);
+    if limits::MAX_PLACES < v {
+        return limits::FRACTIONS;
+    }
+    let k = zeros_of(f);
+    let x = tail_code(
+        operand,
+        modulus,
+        negated,
+        ranges,
+        low,
+        high,
+        s,
+        b,
+        vs,
+        ws,
+        k,
+        t,
+        false,
+    );
+    if x <= code_of(v, f) {
+        return x;
+    }
+    least_code(
+        operand,
+        modulus,
+        negated,
+        ranges,
+        low,
+        high,
+        s,
+        b,
+        vs,
+        ws,
+        t,
+        false,
+    )
+}
+
+// The least v and f, where f is not 0: none where no t meets what is asked of t alone.
+pub fn part_code<'a>(
+    operand: &'a [u8; 320],
+    modulus: &'a [u32; 320],
+    negated: &'a [bool; 320],
+    ranges: &'a [usize; 320],
+    low: &'a [u32; 2048],
+    high: &'a [u32; 2048],
+    s: Span,
+    b: Bounds,
+    p: u64,
+    floor: u64,
+) -> u64
+    requires { ⌜ (s .to ≤ 320) × (s .stop ≤ 320) × NoneBelow alone (joinedIn (table (now operand) (now modulus) (now negated) (now ranges) (now low) (now high)) s) floor ⌝ }
+    requires { ⌜ p ≡ profileOf (bounded b (joinedIn (table (now operand) (now modulus) (now negated) (now ranges) (now low) (now high)) s)) ⌝ }
+    ensures { λ r. ⌜ r ≡ partCode maxPlaces (bounded b (joinedIn (table (now (operand .entry)) (now (modulus .entry)) (now (negated .entry)) (now (ranges .entry)) (now (low .entry)) (now (high .entry))) s)) ⌝ }
+{
+    let t = alone_of(operand, modulus, negated, ranges, low, high, s, floor);
+    if limits::FRACTION_LIMIT <= t {
+        return limits::FRACTIONS;
+    }
+    let vs = profile::v_of(p);
+    let ws = profile::w_of(p);
+    if profile::spares_f(p) {
+        return least_code(
+            operand,
+            modulus,
+            negated,
+            ranges,
+            low,
+            high,
+            s,
+            b,
+            vs,
+            ws,
+            t,
+            true,
+        );
+    }
+    asked_code(
+        operand,
+        modulus,
+        negated,
+        ranges,
+        low,
+        high,
+        s,
+        b,
+        vs,
+        ws,
+        t,
+    )
 }

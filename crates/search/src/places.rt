@@ -10,7 +10,7 @@ ghost use Rattle.rules.specs.Syntax.{Relation};
 ghost use Rattle.plural.specs.Meaning.{all};
 ghost use Rattle.least.specs.Seek.{seek};
 ghost use Rattle.clash_laws.specs.Fast.{settledF, wholeCode, partCode, tailPlaces, fractions};
-ghost use Rattle.clash_laws.specs.Profile.{profileOf, marked, Settled};
+ghost use Rattle.clash_laws.specs.Profile.{profileOf, marked, Settled, leastRoom};
 use crate::limits;
 use crate::limits::power;
 
@@ -102,6 +102,31 @@ pub fn tail_places(vs: u64, ws: u64, k: u64, t: u64) -> u64
     let mut v: u64 = k + 1;
     while v <= limits::MAX_PLACES {
         if room_for(vs, ws, k, t, v) {
+            return v;
+        }
+        v += 1;
+    }
+    v
+}
+
+// Whether v is left and has room for f.
+fn has_room(vs: u64, f: u64, v: u64) -> bool
+    requires { ⌜ v ≤ maxPlaces ⌝ }
+    ensures { λ r. ⌜ r ≡ both (marked vs v) (ltb f (10 ^ v)) ⌝ }
+{
+    if !is_marked(vs, v) {
+        return false;
+    }
+    f < power(v)
+}
+
+// The least such v other than 0.
+pub fn least_room(vs: u64, f: u64) -> u64
+    ensures { λ r. ⌜ (r ≡ leastRoom vs f) × (r ≤ suc maxPlaces) ⌝ }
+{
+    let mut v: u64 = 1;
+    while v <= limits::MAX_PLACES {
+        if has_room(vs, f, v) {
             return v;
         }
         v += 1;
