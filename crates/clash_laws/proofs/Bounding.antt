@@ -41,24 +41,8 @@ module _ (b : Bounds) where
   unfolding test listed
   places-test v = one-range b v
 
-  pub asks-v : (v w : ℕ) → settledF v w (placesBetween b) ≡ fromTo b v
-  unfolding settledV settledW test listed
-  asks-v v w = alike (either (inRange (v % 0) (record { low = b .least .0; high = b .most .0 })) false) ∙ one-range b v
-    where
-      alike : (a : Bool) → both a true ≡ a
-      alike true = refl
-      alike false = refl
-
   module _ (c : List Relation) where
     -- ---- nothing else asks them
-
-    pub bounded-exponent : exponentOf c ≡ exponentOf (bounded b c)
-    unfolding exponentOf settledE ofExponent
-    bounded-exponent = refl
-
-    pub bounded-zero : all (λ (r : Relation). passes (queryT 0) r 0) c ≡ all (λ (r : Relation). passes (queryT 0) r 0) (bounded b c)
-    unfolding passes factor
-    bounded-zero = refl
 
     pub bounded-search : (q : Query) (lo hi : ℕ) → lo ≤ hi → search q c lo hi ≡ search q (bounded b c) lo hi
     unfolding passesAll passes factor

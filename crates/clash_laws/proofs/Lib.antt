@@ -9,7 +9,6 @@ pub mod Joining
 pub mod Claimed
 pub mod Readying
 pub mod Levelled
-pub mod Settling
 pub mod Placing
 pub mod Spotting
 pub mod Pairing

@@ -13,7 +13,7 @@ use Rattle.number.specs.Limits.{maxDigits, maxPlaces}
 use Rattle.rules.specs.Stretch.{Table, relationAt}
 use Rattle.clash_laws.specs.Fast.{test, search, alone, queryF}
 use Rattle.clash_laws.specs.Read.{cap, joinedIn}
-use Rattle.clash_laws.specs.Ready.{Room, Fit, ready, leastIn, holdsIn}
+use Rattle.clash_laws.specs.Ready.{Room, Fit, ready, leastIn}
 use Rattle.clash_laws.specs.declared.Query.{Query}
 use Rattle.clash_laws.specs.declared.Span.{Span}
 
@@ -97,9 +97,6 @@ least-ready T s q lo hi h a b n i t f g =
     (λ z.
     let k = g (eqb-false (q .f) 0 z) in
     rw (z, le-ltb 1000000000 (q .f) (k .0), le-leb hi 1000000000 (k .1))))
-
-pub holds-ready : (T : Table) (j x : ℕ) → j < 320 → x ≤ cap → holdsIn T j x ≡ test (relationAt T j) x
-holds-ready T j x h l = rw (lt-ltb j 320 h, le-ltb cap x l)
 
 -- a search for t before k zeros, and one for i
 

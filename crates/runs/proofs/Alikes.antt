@@ -20,9 +20,5 @@ alike-same e a = record { some = a .some; same = λ k l h. sym (e k) ∙ a .same
 pub alike-all : {P : ℕ → Bool} {x stop : ℕ} {b : Bool} → x < stop → ((k : ℕ) → P k ≡ b) → Alike P x b stop
 alike-all h e = record { some = h; same = λ k _ _. e k }
 
--- an end that is no later
-pub alike-less : {P : ℕ → Bool} {x stop : ℕ} {b : Bool} (end : ℕ) → x < end → Alike P x b stop → Alike P x b (min stop end)
-alike-less {stop} end h a = record { some = omega (arith, a .some); same = λ k l m. a .same k l (omega arith) }
-
 pub alike-not : {P : ℕ → Bool} {x stop : ℕ} {b : Bool} → Alike P x b stop → Alike (λ k. not (P k)) x (not b) stop
 alike-not a = record { some = a .some; same = λ k l h. ap not (a .same k l h) }

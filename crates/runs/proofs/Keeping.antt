@@ -124,10 +124,6 @@ module _ (q : Query) (j p : ℕ) (h : p ≤ cap) where
 -- ---- what is kept
 
 module _ (T : Table) (s : Span) (q : Query) (j : ℕ) where
-  -- it serves for later numbers
-  pub kept-on : (p p′ : ℕ) (says : List Bool) (stop : List ℕ) → p ≤ p′ → Kept T s q j p says stop → Kept T s q j p′ says stop
-  kept-on p p′ says stop h kept k l x a b = kept k l x (omega arith) b
-
   -- where every run is empty, nothing is claimed
   pub kept-none : (p : ℕ) (says : List Bool) (stop : List ℕ) → ((k : ℕ) → getD stop k 0 ≡ 0) → Kept T s q j p says stop
   kept-none p says stop z k l x a b = absurd (omega (arith, z k))

@@ -151,9 +151,6 @@ module _ (q : Query) (r : Relation) (s : ℕ) (e : s ≡ factor q (r .operand)) 
   unfolding tier
   tier-asked l n f = rw (is-asked q r s e n) (sym (level-told l f))
 
-  pub unasked-run : (j p : ℕ) → p < far → s ≡ 0 → Alike (ownOne q j r) p true far
-  unasked-run j p h z = alike-all h (λ x. own-unasked j x z)
-
 -- one of another level asks nothing there
 pub tier-other : (q : Query) (r : Relation) (t j x : ℕ) → t ≡ tier q r → (t ≡ j → ⊥) → ownOne q j r x ≡ true
 unfolding ownOne tier
