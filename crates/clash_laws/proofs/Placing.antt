@@ -256,21 +256,21 @@ module _ (c : List Relation) where
   unfolding fractionCode
   code-part w r e h = rw e h
 
--- ---- where no v and w other than 0 are settled
+-- ---- where no w other than 0 is settled with a v that is no less
 
 abbrev pub Place : ℕ → Type 0
 Place x = (1 ≤ x) × (x ≤ maxPlaces)
 
-tail-shut : (c : List Relation) → ((v w : ℕ) → Place v → Place w → all (settledF v w) c ≡ false) → (k : ℕ) → k < maxPlaces → fractions ≡ tailCode k c
+tail-shut : (c : List Relation) → ((v w : ℕ) → Place v → Place w → w ≤ v → all (settledF v w) c ≡ false) → (k : ℕ) → k < maxPlaces → fractions ≡ tailCode k c
 tail-shut c f k hk =
     let s = seek (λ v. all (settledF v (v - k)) c) (maxPlaces - k) (suc k) in
     let l = seek-least (λ v. all (settledF v (v - k)) c) (maxPlaces - k) (suc k) in
     tail-unsettled k hk c s refl
     (⊎-elim (λ z. z)
-    (λ z. not-both (l .hit (omega arith)) (f s (s - k) (omega (arith, l .low), z) (omega (arith, l .low), omega arith)))
+    (λ z. not-both (l .hit (omega arith)) (f s (s - k) (omega (arith, l .low), z) (omega (arith, l .low), omega arith) (omega arith)))
     (split maxPlaces s))
 
-pub part-shut : (c : List Relation) → ((v w : ℕ) → Place v → Place w → all (settledF v w) c ≡ false) → fractions ≡ partCode maxPlaces c
+pub part-shut : (c : List Relation) → ((v w : ℕ) → Place v → Place w → w ≤ v → all (settledF v w) c ≡ false) → fractions ≡ partCode maxPlaces c
 unfolding partCode
 part-shut c shut = sym (go maxPlaces (omega arith))
   where

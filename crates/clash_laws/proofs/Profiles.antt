@@ -5,10 +5,10 @@ use mathlib.Core.List.{List, [], _∷_, _++_}
 use mathlib.Core.Logic.{_⊎_, ⊎-elim, inl, inr}
 use Prim.Native.Nat.{ℕ, zero, suc, _+_, _*_, _/_, _%_, _^_, _≤_, _<_, min, max}
 use native.Mathlib.Omega.{arith}
-use native.Mathlib.Nat.{div-one, div-eq-of-lt}
+use native.Mathlib.Nat.{div-one, div-eq-of-lt, div-lt-iff-lt-mul}
 use lib.Bits.{bitAnd, and-block}
 use lib.Count.{trailingZeros}
-use lib.Pow.{pow-mono}
+use lib.Pow.{pow-mono, pow-pos}
 use lib.Dec.{eqb, leb}
 use lib.ListN.{getD}
 use native.Mathlib.Decide.{ℕ-discrete}
@@ -286,16 +286,25 @@ module _ (c : List Relation) (p : ℕ) (is : p ≡ profileOf c) where
   unfolding flagAt
   profile-f b e = flag-is 2 b (omega arith) (e ∙ ap (λ (x : ℕ). eqb (x % 2) 1) (let z : p / 4398046511104 ≡ p / 1099511627776 / 4 = omega arith in z)) ∙ none-asks 102 c
 
--- ---- where no v or no w other than 0 is left, f is 0
+-- ---- where no w other than 0 is left with a v that is no less, f is 0
 
-pub profile-shut : (c : List Relation) (vs ws : ℕ) → Settled c vs ws → (vs < 2) ⊎ (ws < 2) → fractions ≡ partCode maxPlaces c
-profile-shut c vs ws s h = part-shut c (λ v w p q. s .says v w (p .1) (q .1) ∙ ⊎-elim (λ k. and-false-left (marked ws w) (bare vs v k (p .0))) (λ k. and-false-right (marked vs v) (bare ws w k (q .0))) h)
-  where
-    bare : (m k : ℕ) → m < 2 → 1 ≤ k → marked m k ≡ false
-    bare m k a b =
-        let g : 2 ^ 1 ≤ 2 ^ k = pow-mono {i = 1} {j = k} b in
-        let z : m / 2 ^ k ≡ 0 = div-eq-of-lt (omega arith) in
-        rw z
+module _ (c : List Relation) (vs ws : ℕ) (s : Settled c vs ws) where
+  -- no w is left; or the least that is, and no v from it on
+  pub profile-shut : ((w : ℕ) → 1 ≤ w → w ≤ maxPlaces → marked ws w ≡ false) → fractions ≡ partCode maxPlaces c
+  profile-shut h = part-shut c (λ v w p q _. s .says v w (p .1) (q .1) ∙ and-false-right (marked vs v) (h w (q .0) (q .1)))
+
+  pub profile-below : (u : ℕ) → ((w : ℕ) → 1 ≤ w → w < u → marked ws w ≡ false) → vs / 2 ^ u ≡ 0 → fractions ≡ partCode maxPlaces c
+  profile-below u h z =
+      part-shut c
+      (λ v w p q l. s .says v w (p .1) (q .1)
+      ∙ ⊎-elim (λ k. and-false-right (marked vs v) (h w (q .0) k)) (λ k. and-false-left (marked ws w) (bare v (omega arith))) (split w u))
+    where
+      bare : (v : ℕ) → u ≤ v → marked vs v ≡ false
+      bare v k =
+          let a : vs < 1 * 2 ^ u = div-lt-iff-lt-mul (pow-pos u) .0 (let y : vs / 2 ^ u < 1 = omega arith in y) in
+          let g : 2 ^ u ≤ 2 ^ v = pow-mono {i = u} {j = v} k in
+          let y : vs / 2 ^ v ≡ 0 = div-eq-of-lt (omega arith) in
+          rw y
 
 -- one test and then the other
 module _ (vs ws v w : ℕ) (hv : v ≤ maxPlaces) (hw : w ≤ maxPlaces) (c : List Relation) (s : Settled c vs ws) where

@@ -33,14 +33,18 @@ fn settled_at(vs: u64, ws: u64, v: u64, w: u64) -> bool
     is_marked(ws, w)
 }
 
-// Whether a v and a w other than 0 are left: where none is, f is 0.
+// Whether a w other than 0 is left with a v that is no less: where none is, f is 0.
 pub fn opens(vs: u64, ws: u64) -> bool
     ensures { λ r. ⌜ (r ≡ false → (c : List Relation) → Settled c vs ws → fractions ≡ partCode maxPlaces c) ⌝ }
 {
-    if vs < 2 {
-        return false;
+    let mut w: u64 = 1;
+    while w <= limits::MAX_PLACES {
+        if is_marked(ws, w) {
+            return vs >> w != 0;
+        }
+        w += 1;
     }
-    2 <= ws
+    false
 }
 
 // The least v that is settled where f is 0.
