@@ -7,6 +7,7 @@ ghost use Rattle.number.specs.Limits.{maxExponent};
 ghost use Rattle.clash_laws.specs.Check.{against, firstPair};
 ghost use Rattle.clash_laws.specs.Fast.{fastClash};
 ghost use Rattle.clash_laws.specs.Floors.{Floored};
+ghost use Rattle.clash_laws.specs.Profile.{ProfiledRules};
 ghost use Rattle.rules.specs.Stretch.{stretch, table};
 ghost use Rattle.clash_laws.specs.Read.{bareRule};
 ghost use Rattle.clash_laws.specs.Spots.{Proper, answered};
@@ -31,10 +32,12 @@ pub fn later_clash<'a>(
     whole: &'a [u64; 40],
     part: &'a [u64; 40],
     tail: &'a [u64; 40],
+    profiles: &'a [u64; 40],
     p: usize,
     n: usize,
 ) -> Clash
     requires { ⌜ (p < n) × (n ≤ 6) × Floored (table (now operand) (now modulus) (now negated) (now ranges) (now low) (now high)) (now relations) (now whole) (now part) (now tail) ⌝ }
+    requires { ⌜ ProfiledRules (table (now operand) (now modulus) (now negated) (now ranges) (now low) (now high)) (now relations) (now clauses) n (now profiles) ⌝ }
     ensures { λ r. ⌜ ((rest : Checked) → against fastClash (p + 1) (p + 1 + 1) (bareRule (table (now (operand .entry)) (now (modulus .entry)) (now (negated .entry)) (now (ranges .entry)) (now (low .entry)) (now (high .entry))) (now (relations .entry)) (now (clauses .entry)) p) (stretch (bareRule (table (now (operand .entry)) (now (modulus .entry)) (now (negated .entry)) (now (ranges .entry)) (now (low .entry)) (now (high .entry))) (now (relations .entry)) (now (clauses .entry))) (p + 1) (n - (p + 1))) rest ≡ answered p n (r .at) (r .spot) rest) × (r .at < n → r .spot .e ≤ maxExponent) × Proper (r .spot) ⌝ }
 {
     let mut q = p + 1;
@@ -51,6 +54,7 @@ pub fn later_clash<'a>(
             whole,
             part,
             tail,
+            profiles,
             p,
             q,
         );
@@ -88,9 +92,11 @@ pub fn first_pair<'a>(
     whole: &'a [u64; 40],
     part: &'a [u64; 40],
     tail: &'a [u64; 40],
+    profiles: &'a [u64; 40],
     n: usize,
 ) -> Checked
     requires { ⌜ (n ≤ 6) × Floored (table (now operand) (now modulus) (now negated) (now ranges) (now low) (now high)) (now relations) (now whole) (now part) (now tail) ⌝ }
+    requires { ⌜ ProfiledRules (table (now operand) (now modulus) (now negated) (now ranges) (now low) (now high)) (now relations) (now clauses) n (now profiles) ⌝ }
     ensures { λ r. ⌜ r ≡ firstPair fastClash (0 + 1) (stretch (bareRule (table (now (operand .entry)) (now (modulus .entry)) (now (negated .entry)) (now (ranges .entry)) (now (low .entry)) (now (high .entry))) (now (relations .entry)) (now (clauses .entry))) 0 (n - 0)) ⌝ }
 {
     let mut k: usize = 0;
@@ -107,6 +113,7 @@ pub fn first_pair<'a>(
             whole,
             part,
             tail,
+            profiles,
             k,
             n,
         );

@@ -2,10 +2,11 @@
 ghost use mathlib.Core.Path.{_≡_};
 ghost use mathlib.Core.Bool.{Bool};
 ghost use mathlib.Core.List.{List, _++_};
-ghost use Prim.Native.Nat.{ℕ, suc, _+_, _-_, _≤_, _<_, min};
+ghost use Prim.Native.Nat.{ℕ, suc, _+_, _-_, _≤_, _<_, min, max};
 ghost use lib.ListN.{getD};
 ghost use Rattle.clash_laws.specs.Floors.{Floored};
 ghost use Rattle.clash_laws.specs.Fast.{clauseRank, fastRank, withEach, bothOf};
+ghost use Rattle.clash_laws.specs.Profile.{profileOf, Profiled};
 ghost use Rattle.rules.specs.Stretch.{startAt, table, clauseAt, clausesIn};
 ghost use Rattle.clash_laws.specs.Read.{ruleClauses};
 ghost use Rattle.clash_laws.specs.Spots.{spotRank, Proper};
@@ -44,6 +45,13 @@ pub fn relations_stop(ends: &[usize; 40], k: usize) -> usize
     }
 }
 
+// The further of two places.
+fn further(a: usize, b: usize) -> usize
+    ensures { λ r. ⌜ r ≡ max a b ⌝ }
+{
+    if a < b { b } else { a }
+}
+
 // Where the clauses of the rule p begin, and where they end.
 fn clauses_start(ends: &[usize; 6], p: usize) -> usize
     requires { ⌜ p < 6 ⌝ }
@@ -63,15 +71,18 @@ fn clauses_stop(ends: &[usize; 6], p: usize) -> usize
     if end < MAX_CLAUSES { end } else { MAX_CLAUSES }
 }
 
-// How many clauses the first n rules have.
-pub fn clauses_before(ends: &[usize; 6], n: usize) -> usize
+// Past the clauses that the first n rules have.
+pub fn clauses_end(ends: &[usize; 6], n: usize) -> usize
     requires { ⌜ n ≤ 6 ⌝ }
-    ensures { λ r. ⌜ r ≡ min (startAt (now (ends .entry)) n) 40 ⌝ }
+    ensures { λ r. ⌜ (r ≤ 40) × ((p : ℕ) → p < n → min (getD (now (ends .entry)) p 0) 40 ≤ r) ⌝ }
 {
-    if n == 0 {
-        return 0;
+    let mut end: usize = 0;
+    let mut p: usize = 0;
+    while p < n {
+        end = further(end, clauses_stop(ends, p));
+        p += 1;
     }
-    clauses_stop(ends, n - 1)
+    end
 }
 
 // The least number of the clauses k and l joined, with any v.
@@ -86,10 +97,12 @@ fn joined_spot<'a>(
     whole: &'a [u64; 40],
     part: &'a [u64; 40],
     tail: &'a [u64; 40],
+    profiles: &'a [u64; 40],
     k: usize,
     l: usize,
 ) -> Witness
     requires { ⌜ (k < 40) × (l < 40) × Floored (table (now operand) (now modulus) (now negated) (now ranges) (now low) (now high)) (now relations) (now whole) (now part) (now tail) ⌝ }
+    requires { ⌜ (getD (now profiles) k 0 ≡ profileOf (clauseAt (table (now operand) (now modulus) (now negated) (now ranges) (now low) (now high)) (now relations) k)) × (getD (now profiles) l 0 ≡ profileOf (clauseAt (table (now operand) (now modulus) (now negated) (now ranges) (now low) (now high)) (now relations) l)) ⌝ }
     ensures { λ r. ⌜ (spotRank r ≡ clauseRank (clauseAt (table (now (operand .entry)) (now (modulus .entry)) (now (negated .entry)) (now (ranges .entry)) (now (low .entry)) (now (high .entry))) (now (relations .entry)) k ++ clauseAt (table (now (operand .entry)) (now (modulus .entry)) (now (negated .entry)) (now (ranges .entry)) (now (low .entry)) (now (high .entry))) (now (relations .entry)) l)) × Proper r ⌝ }
 {
     let from = relations_start(relations, k);
@@ -106,8 +119,20 @@ fn joined_spot<'a>(
         least: Places(0),
         most: Places(limits::MAX_PLACES as u8),
     };
+    let p = profiles[k] & profiles[l];
     let floors = floors::pair_floors(whole, part, tail, k, l);
-    search::least_admitted(operand, modulus, negated, ranges, low, high, s, b, floors)
+    search::least_admitted(
+        operand,
+        modulus,
+        negated,
+        ranges,
+        low,
+        high,
+        s,
+        b,
+        p,
+        floors,
+    )
 }
 
 // The earliest of `best` and the least numbers of the clause k with each of those from place `from` to before `to`.
@@ -122,12 +147,14 @@ fn with_each<'a>(
     whole: &'a [u64; 40],
     part: &'a [u64; 40],
     tail: &'a [u64; 40],
+    profiles: &'a [u64; 40],
     k: usize,
     from: usize,
     to: usize,
     first: Witness,
 ) -> Witness
     requires { ⌜ (k < 40) × (to ≤ 40) × Proper first × Floored (table (now operand) (now modulus) (now negated) (now ranges) (now low) (now high)) (now relations) (now whole) (now part) (now tail) ⌝ }
+    requires { ⌜ (getD (now profiles) k 0 ≡ profileOf (clauseAt (table (now operand) (now modulus) (now negated) (now ranges) (now low) (now high)) (now relations) k)) × Profiled (table (now operand) (now modulus) (now negated) (now ranges) (now low) (now high)) (now relations) (now profiles) to ⌝ }
     ensures { λ r. ⌜ (spotRank r ≡ min (spotRank first) (fastRank (withEach (clauseAt (table (now (operand .entry)) (now (modulus .entry)) (now (negated .entry)) (now (ranges .entry)) (now (low .entry)) (now (high .entry))) (now (relations .entry)) k) (clausesIn (table (now (operand .entry)) (now (modulus .entry)) (now (negated .entry)) (now (ranges .entry)) (now (low .entry)) (now (high .entry))) (now (relations .entry)) from to)))) × Proper r ⌝ }
 {
     let mut best = first;
@@ -144,6 +171,7 @@ fn with_each<'a>(
             whole,
             part,
             tail,
+            profiles,
             k,
             l,
         );
@@ -165,12 +193,14 @@ fn both_spot<'a>(
     whole: &'a [u64; 40],
     part: &'a [u64; 40],
     tail: &'a [u64; 40],
+    profiles: &'a [u64; 40],
     from: usize,
     to: usize,
     start: usize,
     stop: usize,
 ) -> Witness
     requires { ⌜ (to ≤ 40) × (stop ≤ 40) × Floored (table (now operand) (now modulus) (now negated) (now ranges) (now low) (now high)) (now relations) (now whole) (now part) (now tail) ⌝ }
+    requires { ⌜ Profiled (table (now operand) (now modulus) (now negated) (now ranges) (now low) (now high)) (now relations) (now profiles) to × Profiled (table (now operand) (now modulus) (now negated) (now ranges) (now low) (now high)) (now relations) (now profiles) stop ⌝ }
     ensures { λ r. ⌜ (spotRank r ≡ fastRank (bothOf (clausesIn (table (now (operand .entry)) (now (modulus .entry)) (now (negated .entry)) (now (ranges .entry)) (now (low .entry)) (now (high .entry))) (now (relations .entry)) from to) (clausesIn (table (now (operand .entry)) (now (modulus .entry)) (now (negated .entry)) (now (ranges .entry)) (now (low .entry)) (now (high .entry))) (now (relations .entry)) start stop))) × Proper r ⌝ }
 {
     let mut best = order::nowhere();
@@ -187,6 +217,7 @@ fn both_spot<'a>(
             whole,
             part,
             tail,
+            profiles,
             k,
             start,
             stop,
@@ -210,10 +241,12 @@ pub fn pair_spot<'a>(
     whole: &'a [u64; 40],
     part: &'a [u64; 40],
     tail: &'a [u64; 40],
+    profiles: &'a [u64; 40],
     p: usize,
     q: usize,
 ) -> Witness
     requires { ⌜ (p < 6) × (q < 6) × Floored (table (now operand) (now modulus) (now negated) (now ranges) (now low) (now high)) (now relations) (now whole) (now part) (now tail) ⌝ }
+    requires { ⌜ Profiled (table (now operand) (now modulus) (now negated) (now ranges) (now low) (now high)) (now relations) (now profiles) (min (getD (now clauses) p 0) 40) × Profiled (table (now operand) (now modulus) (now negated) (now ranges) (now low) (now high)) (now relations) (now profiles) (min (getD (now clauses) q 0) 40) ⌝ }
     ensures { λ r. ⌜ (spotRank r ≡ fastRank (bothOf (ruleClauses (table (now (operand .entry)) (now (modulus .entry)) (now (negated .entry)) (now (ranges .entry)) (now (low .entry)) (now (high .entry))) (now (relations .entry)) (now (clauses .entry)) p) (ruleClauses (table (now (operand .entry)) (now (modulus .entry)) (now (negated .entry)) (now (ranges .entry)) (now (low .entry)) (now (high .entry))) (now (relations .entry)) (now (clauses .entry)) q))) × Proper r ⌝ }
 {
     let from = clauses_start(clauses, p);
@@ -231,6 +264,7 @@ pub fn pair_spot<'a>(
         whole,
         part,
         tail,
+        profiles,
         from,
         to,
         start,

@@ -1,10 +1,12 @@
 // The pack check: the first two rules that one admitted number meets, with the least such number.
 //
 // Crate clash_laws has the definition and its laws; crate search finds the least number of two clauses
-// joined. Below the entry the pack's arrays are lent one by one, with the floors of its long clauses.
+// joined. Below the entry the pack's arrays are lent one by one, with its clauses' profiles and
+// the floors of its long ones.
 mod first;
 mod floors;
 mod joined;
+mod profiled;
 
 ghost use mathlib.Core.Path.{_≡_};
 ghost use Prim.Native.Nat.{min};
@@ -67,10 +69,22 @@ pub fn check<'a>(
         clauses,
     );
     let n = rule_count(count);
-    let end = joined::clauses_before(clauses, n);
+    let end = joined::clauses_end(clauses, n);
     let mut whole: [u64; 40] = [0; 40];
     let mut part: [u64; 40] = [0; 40];
     let mut tail: [u64; 40] = [0; 40];
+    let mut profiles: [u64; 40] = [0; 40];
+    profiled::fill(
+        operand,
+        modulus,
+        negated,
+        ranges,
+        low,
+        high,
+        relations,
+        &mut profiles,
+        end,
+    );
     floors::fill(
         operand,
         modulus,
@@ -96,6 +110,7 @@ pub fn check<'a>(
         &whole,
         &part,
         &tail,
+        &profiles,
         n,
     )
 }

@@ -15,7 +15,7 @@ use Rattle.plural.specs.Meaning.{all, inRange, clauseHolds}
 use Rattle.least.proofs.Seeking.{and-false-left, least-one, seek-least}
 use Rattle.clash_laws.specs.Bounded.{fromTo, withinPlaces, placesBetween, bounded}
 use Rattle.clash_laws.specs.Check.{lowest, admits, numberAt, ranked, ranks, found, leastRank}
-use Rattle.clash_laws.specs.Fast.{Query, factor, listed, test, passes, passesAll, queryT, search, ofExponent, settledE, settledF, exponentOf, alone, aloneOf, tailOf, integerOf, clauseRank}
+use Rattle.clash_laws.specs.Fast.{Query, factor, listed, test, passes, passesAll, queryT, search, ofExponent, settledE, settledV, settledW, settledF, exponentOf, alone, aloneOf, queryF, leastF, tailOf, integerOf, clauseRank}
 use Rattle.clash_laws.specs.declared.Bounds.{Bounds}
 use Rattle.clash_laws.proofs.FastIs.{lowest-le, least-same, clause-least}
 use Rattle.clash_laws.proofs.Searched.{search-least}
@@ -37,20 +37,12 @@ module _ (b : Bounds) where
   pub from-least : (v : ℕ) → b .least .0 ≤ v → leb v (b .most .0) ≡ fromTo b v
   from-least v h = sym (ap (λ (x : Bool). both x (leb v (b .most .0))) (le-leb (b .least .0) v h))
 
-  pub asks-v : (v w : ℕ) → settledF v w (placesBetween b) ≡ fromTo b v
-  unfolding settledF test listed
-  asks-v v w = one-range b v
+  pub places-test : (v : ℕ) → test (placesBetween b) v ≡ fromTo b v
+  unfolding test listed
+  places-test v = one-range b v
 
   module _ (c : List Relation) where
     -- ---- nothing else asks them
-
-    pub bounded-exponent : exponentOf c ≡ exponentOf (bounded b c)
-    unfolding exponentOf settledE ofExponent
-    bounded-exponent = refl
-
-    pub bounded-zero : all (λ (r : Relation). passes (queryT 0) r 0) c ≡ all (λ (r : Relation). passes (queryT 0) r 0) (bounded b c)
-    unfolding passes factor
-    bounded-zero = refl
 
     pub bounded-search : (q : Query) (lo hi : ℕ) → lo ≤ hi → search q c lo hi ≡ search q (bounded b c) lo hi
     unfolding passesAll passes factor
@@ -59,6 +51,10 @@ module _ (b : Bounds) where
     pub bounded-alone : aloneOf c ≡ aloneOf (bounded b c)
     unfolding aloneOf
     bounded-alone = bounded-search alone 0 (10 ^ maxPlaces) (omega arith)
+
+    pub bounded-f : leastF c ≡ leastF (bounded b c)
+    unfolding leastF
+    bounded-f = bounded-search queryF 1 (10 ^ maxPlaces) (omega arith)
 
     pub bounded-tail : (k : ℕ) → tailOf k c ≡ tailOf k (bounded b c)
     unfolding tailOf

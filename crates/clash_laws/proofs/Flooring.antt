@@ -80,13 +80,6 @@ below-tail c k p f e n x h =
 pub below-integer : (c : List Relation) (w : Bool) (o f : ℕ) → o ≡ (if w then 1 else 0) → NoneBelow (queryI w) c f → NoneBelow (record { n = o; i = 1; f = 0; t = 0; odd = false }) c f
 below-integer c w o f e n x h = subst (λ (y : ℕ). passesAll (record { n = y; i = 1; f = 0; t = 0; odd = false }) c x ≡ false) (sym e) (n x h)
 
-pub below-kind : (c : List Relation) (l : Floors) (w : Bool) (f : ℕ) → Under c l → f ≡ (if w then l .whole else l .part) → NoneBelow (queryI w) c f
-below-kind c l w f u e = subst (NoneBelow (queryI w) c) (sym e) (go w)
-  where
-    go : (w : Bool) → NoneBelow (queryI w) c (if w then l .whole else l .part)
-    go true = u .whole
-    go false = u .part
-
 -- ---- the floors of a clause
 
 pub under-none : (c : List Relation) → Under c (record { whole = 0; part = 0; tail = 0 })
@@ -213,21 +206,12 @@ one-kind : (x : ℕ) (r : Relation) → eqb (r .operand) 110 ≡ false → passe
 unfolding passes factor
 one-kind x r n = rw n
 
-each-kind : (x : ℕ) (c : List Relation) → asksOf 110 c ≡ false → all (λ (r : Relation). passes (queryI false) r x) c ≡ all (λ (r : Relation). passes (queryI true) r x) c
+pub each-kind : (x : ℕ) (c : List Relation) → asksOf 110 c ≡ false → all (λ (r : Relation). passes (queryI false) r x) c ≡ all (λ (r : Relation). passes (queryI true) r x) c
 each-kind x [] h = refl
 each-kind x (r ∷ rs) h =
     let n = neither (eqb (r .operand) 110) (asksOf 110 rs) h in
     ap₂ both (one-kind x r (n .0)) (each-kind x rs (n .1))
 
--- the least i where f is 0 is a floor of both
-pub under-shared : (c : List Relation) (l : Floors) (a : Bool) (i : ℕ) → Under c l → a ≡ asksOf 110 c → a ≡ false → i ≡ integerOf true 0 c
-    → Under c (record { whole = i; part = i; tail = l .tail })
-unfolding passesAll ends
-under-shared c l a i u e f h =
-    let below = below-found (queryI true) c (10 ^ maxDigits) i (found-integer c l true i h) in
-    record { whole = below; part = λ x k. each-kind x c (sym e ∙ f) ∙ below x k; tail = u .tail }
-
--- a floor past all i leaves none
-pub floor-past : (c : List Relation) (w : Bool) (e f : ℕ) → e ≤ maxExponent → NoneBelow (queryI w) c f → 10 ^ maxDigits ≤ f → 10 ^ maxDigits ≡ integerOf w e c
-unfolding integerOf
-floor-past c w e f h n l = search-past (queryI w) c (lowest e) (10 ^ maxDigits) f (max (lowest e) f) n refl (lowest-le e h) (omega arith)
+pub tail-past : (c : List Relation) (f : ℕ) → NoneBelow alone c f → 10 ^ maxPlaces ≤ f → 10 ^ maxPlaces ≡ aloneOf c
+unfolding aloneOf
+tail-past c f n l = search-past alone c 0 (10 ^ maxPlaces) f (max 0 f) n refl (omega arith) (omega arith)

@@ -4,9 +4,8 @@ use mathlib.Core.List.{List}
 use Prim.Native.Nat.{ℕ, zero, suc, _+_, _-_, min}
 use native.Mathlib.Nat.{sub-zero}
 use Rattle.rules.specs.Syntax.{Relation, Rule}
-use Rattle.rules.specs.Held.{heldRules}
+use Rattle.rules.specs.Held.{Pack, heldRules}
 use Rattle.rules.specs.Stretch.{stretch, tableOf, ruleAt}
-use Rattle.rules.specs.declared.Pack.{Pack}
 use Rattle.rules.proofs.Stretches.{Sized, held-rules}
 use Rattle.clash_laws.specs.Check.{named, against, firstPair, checkOf}
 use Rattle.clash_laws.specs.Fast.{fastRank, bothOf, fastClash}

@@ -9,7 +9,6 @@ pub mod Joining
 pub mod Claimed
 pub mod Readying
 pub mod Levelled
-pub mod Settling
 pub mod Placing
 pub mod Spotting
 pub mod Pairing
@@ -19,3 +18,7 @@ pub mod Holding
 pub mod Rows
 pub mod Bounding
 pub mod Flooring
+pub mod Bits
+pub mod Profiles
+pub mod Whole
+pub mod LeastF

@@ -47,14 +47,6 @@ both-no x y a e f = sym (ap (λ (z : Bool). both z y) (sym e ∙ f))
 pub both-yes : (x y a : Bool) {b : Bool} → a ≡ x → a ≡ true → b ≡ y → b ≡ both x y
 both-yes x y a e f g = g ∙ sym (ap (λ (z : Bool). both z y) (sym e ∙ f))
 
--- whether any passes
-module _ (P : ℕ → Bool) (n lo top : ℕ) (l : lo + n ≡ suc top) where
-  pub some-at : (e : ℕ) (b : Bool) → Before P n lo e → e ≤ top → b ≡ P e → b ≡ true → true ≡ leb (seek P n lo) top
-  some-at e b h k g f = sym (le-leb (seek P n lo) top (subst (λ (x : ℕ). x ≤ top) (seek-at P n lo e b h (omega arith) g f) k))
-
-  pub some-none : (e : ℕ) → Before P n lo e → e ≡ suc top → false ≡ leb (seek P n lo) top
-  some-none e h k = sym (lt-leb (seek P n lo) top (subst (λ (x : ℕ). top < x) (seek-none P n lo e h (omega arith)) (omega arith)))
-
 -- ---- f is 0
 
 module _ (c : List Relation) where
@@ -74,7 +66,7 @@ module _ (k : ℕ) (hk : k < maxPlaces) (c : List Relation) where
   abbrev Good : ℕ → ℕ → Bool
   Good t v = both (all (settledF v (v - k)) c) (ltb t (10 ^ (v - k)))
 
-  sought : (t : ℕ) → Least (λ v. both (all (settledF v (v - k)) c) (ltb t (10 ^ (v - k)))) (suc k) (suc k + (maxPlaces - k)) (tailPlaces k t c)
+  pub sought : (t : ℕ) → Least (λ v. both (all (settledF v (v - k)) c) (ltb t (10 ^ (v - k)))) (suc k) (suc k + (maxPlaces - k)) (tailPlaces k t c)
   unfolding tailPlaces
   sought t = seek-least (λ v. both (all (settledF v (v - k)) c) (ltb t (10 ^ (v - k)))) (maxPlaces - k) (suc k)
 
@@ -264,21 +256,21 @@ module _ (c : List Relation) where
   unfolding fractionCode
   code-part w r e h = rw e h
 
--- ---- where no v and w other than 0 are settled
+-- ---- where no w other than 0 is settled with a v that is no less
 
 abbrev pub Place : ℕ → Type 0
 Place x = (1 ≤ x) × (x ≤ maxPlaces)
 
-tail-shut : (c : List Relation) → ((v w : ℕ) → Place v → Place w → all (settledF v w) c ≡ false) → (k : ℕ) → k < maxPlaces → fractions ≡ tailCode k c
+tail-shut : (c : List Relation) → ((v w : ℕ) → Place v → Place w → w ≤ v → all (settledF v w) c ≡ false) → (k : ℕ) → k < maxPlaces → fractions ≡ tailCode k c
 tail-shut c f k hk =
     let s = seek (λ v. all (settledF v (v - k)) c) (maxPlaces - k) (suc k) in
     let l = seek-least (λ v. all (settledF v (v - k)) c) (maxPlaces - k) (suc k) in
     tail-unsettled k hk c s refl
     (⊎-elim (λ z. z)
-    (λ z. not-both (l .hit (omega arith)) (f s (s - k) (omega (arith, l .low), z) (omega (arith, l .low), omega arith)))
+    (λ z. not-both (l .hit (omega arith)) (f s (s - k) (omega (arith, l .low), z) (omega (arith, l .low), omega arith) (omega arith)))
     (split maxPlaces s))
 
-pub part-shut : (c : List Relation) → ((v w : ℕ) → Place v → Place w → all (settledF v w) c ≡ false) → fractions ≡ partCode maxPlaces c
+pub part-shut : (c : List Relation) → ((v w : ℕ) → Place v → Place w → w ≤ v → all (settledF v w) c ≡ false) → fractions ≡ partCode maxPlaces c
 unfolding partCode
 part-shut c shut = sym (go maxPlaces (omega arith))
   where
@@ -287,10 +279,6 @@ part-shut c shut = sym (go maxPlaces (omega arith))
     go (suc n) h = let x = go n (omega arith) in let y = tail-shut c shut n (omega arith) in omega arith
 
 -- ---- the names of what is sought
-
-pub exponent-is : (r : ℕ) (c : List Relation) → r ≡ seek (λ e. all (settledE e) c) (suc maxExponent) 0 → r ≡ exponentOf c
-unfolding exponentOf
-exponent-is r c h = h
 
 pub places-is : (r k t : ℕ) (c : List Relation) → r ≡ seek (λ v. both (all (settledF v (v - k)) c) (ltb t (10 ^ (v - k)))) (maxPlaces - k) (suc k) → r ≡ tailPlaces k t c
 unfolding tailPlaces

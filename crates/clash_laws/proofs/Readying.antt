@@ -11,9 +11,9 @@ use Rattle.decimal.proofs.Choices.{tested, not-both}
 use Rattle.decimal.proofs.Values.{power-mono}
 use Rattle.number.specs.Limits.{maxDigits, maxPlaces}
 use Rattle.rules.specs.Stretch.{Table, relationAt}
-use Rattle.clash_laws.specs.Fast.{test, search, alone}
+use Rattle.clash_laws.specs.Fast.{test, search, alone, queryF}
 use Rattle.clash_laws.specs.Read.{cap, joinedIn}
-use Rattle.clash_laws.specs.Ready.{Room, Fit, ready, leastIn, holdsIn}
+use Rattle.clash_laws.specs.Ready.{Room, Fit, ready, leastIn}
 use Rattle.clash_laws.specs.declared.Query.{Query}
 use Rattle.clash_laws.specs.declared.Span.{Span}
 
@@ -98,9 +98,6 @@ least-ready T s q lo hi h a b n i t f g =
     let k = g (eqb-false (q .f) 0 z) in
     rw (z, le-ltb 1000000000 (q .f) (k .0), le-leb hi 1000000000 (k .1))))
 
-pub holds-ready : (T : Table) (j x : ℕ) → j < 320 → x ≤ cap → holdsIn T j x ≡ test (relationAt T j) x
-holds-ready T j x h l = rw (lt-ltb j 320 h, le-ltb cap x l)
-
 -- a search for t before k zeros, and one for i
 
 pub tail-ready : (T : Table) (s : Span) (k p e : ℕ) → s .to ≤ 320 → s .stop ≤ 320 → k < maxPlaces → p ≡ 10 ^ k → e ≡ 10 ^ (maxPlaces - k)
@@ -125,3 +122,8 @@ integer-ready T s w n lo a b g l =
 pub alone-ready : (T : Table) (s : Span) → s .to ≤ 320 → s .stop ≤ 320 → leastIn T s alone 0 (10 ^ maxPlaces) ≡ search alone (joinedIn T s) 0 (10 ^ maxPlaces)
 alone-ready T s a b =
     least-ready T s alone 0 (10 ^ maxPlaces) (omega arith) a b (omega arith) (omega arith) (omega arith) (λ z. omega arith) (λ z. absurd (z refl))
+
+-- a search for f by what is asked of f alone
+pub f-ready : (T : Table) (s : Span) → s .to ≤ 320 → s .stop ≤ 320 → leastIn T s queryF 1 (10 ^ maxPlaces) ≡ search queryF (joinedIn T s) 1 (10 ^ maxPlaces)
+f-ready T s a b =
+    least-ready T s queryF 1 (10 ^ maxPlaces) (omega arith) a b (omega arith) (omega arith) (omega arith) (λ z. omega arith) (λ z. (omega arith, omega arith))

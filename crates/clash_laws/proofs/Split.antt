@@ -13,7 +13,7 @@ use Rattle.decimal.proofs.Values.{power-pos}
 use Rattle.number.specs.declared.Number.{Number}
 use Rattle.rules.specs.Syntax.{Range, Relation}
 use Rattle.plural.specs.Meaning.{any, all, inRange, holds, clauseHolds}
-use Rattle.clash_laws.specs.Fast.{listed, test, factor, passes, queryI, queryT, ofExponent, settledE, settledF}
+use Rattle.clash_laws.specs.Fast.{listed, test, factor, passes, queryI, queryT, ofExponent, settledE, settledV, settledW, settledF}
 
 both-one : (a : Bool) → a ≡ both a true
 both-one true = refl
@@ -33,7 +33,7 @@ module _ (negative : Bool) (e v i f w t : ℕ) (to : w ≡ 0 → f ≡ 0) (from 
     Says o = holds (rel o) x ≡ both (settledE e (rel o)) (both (settledF v w (rel o)) (both (passes (queryI (eqb w 0)) (rel o) i) (passes (queryT (v - w)) (rel o) t)))
 
     at-n : Says 110
-    unfolding settledE settledF ofExponent passes factor test listed
+    unfolding settledE settledV settledW ofExponent passes factor test listed
     at-n = rw (eqb-same f 0 w 0 from to) (go (eqb w 0) n)
       where
         A : Bool
@@ -47,27 +47,31 @@ module _ (negative : Bool) (e v i f w t : ℕ) (to : w ≡ 0 → f ≡ 0) (from 
         go false false = refl
 
     at-i : Says 105
-    unfolding settledE settledF ofExponent passes factor test listed
+    unfolding settledE settledV settledW ofExponent passes factor test listed
     at-i = rw (mul-one i) (both-one _)
 
     at-f : Says 102
-    unfolding settledE settledF ofExponent passes factor test listed
+    unfolding settledE settledV settledW ofExponent passes factor test listed
     at-f = rw (ne-eqb (10 ^ (v - w)) 0 (λ z. omega (arith, power-pos (v - w))), is)
 
     at-t : Says 116
-    unfolding settledE settledF ofExponent passes factor test listed
+    unfolding settledE settledV settledW ofExponent passes factor test listed
     at-t = rw (mul-one t)
 
     at-v : Says 118
-    unfolding settledE settledF ofExponent passes factor test listed
-    at-v = both-one _
+    unfolding settledE settledV settledW ofExponent passes factor test listed
+    at-v = twice _
+      where
+        twice : (a : Bool) → a ≡ both (both a true) true
+        twice true = refl
+        twice false = refl
 
     at-w : Says 119
-    unfolding settledE settledF ofExponent passes factor test listed
+    unfolding settledE settledV settledW ofExponent passes factor test listed
     at-w = both-one _
 
     at-e : (o : ℕ) → eqb o 110 ≡ false → eqb o 105 ≡ false → eqb o 102 ≡ false → eqb o 116 ≡ false → eqb o 118 ≡ false → eqb o 119 ≡ false → Says o
-    unfolding settledE settledF ofExponent passes factor test listed
+    unfolding settledE settledV settledW ofExponent passes factor test listed
     at-e o a b c d p q = rw (a, b, c, d, p, q) (both-one _)
 
     says : (o : ℕ) → Says o

@@ -18,7 +18,7 @@ use Rattle.least.proofs.Seeking.{split}
 use Rattle.clash_laws.specs.Check.{lowest, block, ranks}
 use Rattle.clash_laws.specs.Fast.{search, exponentOf, fractions, fractionCode, integerOf, placed, kindRank, clauseRank}
 use Rattle.clash_laws.specs.Ready.{Room}
-use Rattle.clash_laws.specs.Spots.{spotRank, Proper}
+use Rattle.clash_laws.specs.Spots.{kindSpot, spotRank, Proper}
 use Rattle.clash_laws.proofs.FastIs.{lowest-le}
 
 pub nowhere-rank : spotRank (record { e = suc maxExponent; v = record { 0 = 0 }; i = 0; f = record { 0 = 0 } }) ≡ ranks
@@ -109,9 +109,9 @@ integer-is w e n p r c g f h = h ∙ ap₂ (λ (x y : ℕ). search (record { n =
 
 module _ (w : Bool) (e : ℕ) (c : List Relation) where
   abbrev pub KindSays : ℕ → Type 0
-  KindSays r = r ≡ (if ltb (kindRank w e c) block then e * block + kindRank w e c else ranks)
+  KindSays r = r ≡ kindSpot w e c
 
-  says-none : kindRank w e c ≡ block → (r : ℕ) → r ≡ ranks → KindSays r
+  pub says-none : kindRank w e c ≡ block → (r : ℕ) → r ≡ ranks → KindSays r
   says-none h r g = rw (le-ltb (kindRank w e c) block (omega arith)) g
 
   pub kind-no-fraction : (q r : ℕ) → q ≡ fractionCode w c → fractions ≤ q → r ≡ ranks → KindSays r
@@ -119,7 +119,7 @@ module _ (w : Bool) (e : ℕ) (c : List Relation) where
   kind-no-fraction q r g h k =
       says-none (ap (λ (b : Bool). elim b [ true ↦ if ltb (integerOf w e c) (10 ^ maxDigits) then placed (fractionCode w c) (integerOf w e c) else block | false ↦ block ]) (le-ltb (fractionCode w c) fractions (omega arith))) r k
 
-  some-fraction : (q : ℕ) → q ≡ fractionCode w c → q < fractions → kindRank w e c ≡ (if ltb (integerOf w e c) (10 ^ maxDigits) then placed (fractionCode w c) (integerOf w e c) else block)
+  pub some-fraction : (q : ℕ) → q ≡ fractionCode w c → q < fractions → kindRank w e c ≡ (if ltb (integerOf w e c) (10 ^ maxDigits) then placed (fractionCode w c) (integerOf w e c) else block)
   unfolding kindRank
   some-fraction q g h =
       ap (λ (b : Bool). elim b [ true ↦ if ltb (integerOf w e c) (10 ^ maxDigits) then placed (fractionCode w c) (integerOf w e c) else block | false ↦ block ]) (lt-ltb (fractionCode w c) fractions (omega arith))

@@ -72,12 +72,17 @@ unfoldable pub settledE : ℕ → Relation → Bool
 settledE e r = if ofExponent (r .operand) then test r e else true
 
 -- where w is not 0, n is no whole number
-unfoldable pub settledF : ℕ → ℕ → Relation → Bool
-settledF v w r =
+unfoldable pub settledV : ℕ → Relation → Bool
+settledV v r = if eqb (r .operand) 118 then test r v else true
+
+unfoldable pub settledW : ℕ → Relation → Bool
+settledW w r =
     if eqb (r .operand) 110 then either (eqb w 0) (r .negated) else
-    if eqb (r .operand) 118 then test r v else
     if eqb (r .operand) 119 then test r w else
     true
+
+abbrev pub settledF : ℕ → ℕ → Relation → Bool
+settledF v w r = both (settledV v r) (settledW w r)
 
 -- ---- a clause: the e, the v and f, and the i of its least number do not depend on one another, but that i depends on whether f is 0
 
@@ -101,6 +106,13 @@ alone = record { n = 0; i = 0; f = 0; t = 1; odd = true }
 
 unfoldable pub aloneOf : List Relation → ℕ
 aloneOf c = search alone c 0 (10 ^ maxPlaces)
+
+-- the least f other than 0 by what is asked of f alone: every f is at least that
+abbrev pub queryF : Query
+queryF = record { n = 0; i = 0; f = 1; t = 0; odd = false }
+
+unfoldable pub leastF : List Relation → ℕ
+leastF c = search queryF c 1 (10 ^ maxPlaces)
 
 -- one of the relations has the operand o
 abbrev pub asksOf : ℕ → List Relation → Bool

@@ -7,3 +7,4 @@ pub mod Spots
 pub mod Ready
 pub mod Bounded
 pub mod Floors
+pub mod Profile

@@ -3,8 +3,8 @@ use mathlib.Core.Bool.{Bool, true, false}
 use Prim.Native.Nat.{ℕ, _*_, _≤_}
 use lib.Dec.{leb, ltb, eqb}
 use Rattle.decimal.specs.Choice.{if_then_else_}
-use Rattle.rules.specs.Stretch.{Table, relationAt}
-use Rattle.clash_laws.specs.Fast.{test, search}
+use Rattle.rules.specs.Stretch.{Table}
+use Rattle.clash_laws.specs.Fast.{search}
 use Rattle.clash_laws.specs.Read.{cap, joinedIn}
 use Rattle.clash_laws.specs.declared.Query.{Query}
 use Rattle.clash_laws.specs.declared.Span.{Span}
@@ -39,6 +39,3 @@ ready s q lo hi =
 
 abbrev pub leastIn : Table → Span → Query → ℕ → ℕ → ℕ
 leastIn T s q lo hi = if ready s q lo hi then search q (joinedIn T s) lo hi else hi
-
-abbrev pub holdsIn : Table → ℕ → ℕ → Bool
-holdsIn T j x = if ltb j 320 then (if ltb cap x then false else test (relationAt T j) x) else false

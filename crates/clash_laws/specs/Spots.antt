@@ -1,10 +1,14 @@
 -- What the search finds, as a rank: a number whose e is past the largest stands for none.
+use mathlib.Core.Bool.{Bool}
+use mathlib.Core.List.{List}
 use Prim.Native.Nat.{ℕ, suc, _+_, _*_, _^_, _≤_, _<_}
 use lib.Dec.{ltb}
 use Rattle.decimal.specs.Choice.{if_then_else_}
 use Rattle.answer.specs.declared.Witness.{Witness}
 use Rattle.number.specs.Limits.{maxExponent, maxDigits, maxPlaces}
+use Rattle.rules.specs.Syntax.{Relation}
 use Rattle.clash_laws.specs.Check.{block, ranks}
+use Rattle.clash_laws.specs.Fast.{kindRank}
 use Rattle.clash_laws.specs.declared.Checked.{Checked}
 use Rattle.clash_laws.specs.declared.Checked.the-variants.{Clashes}
 
@@ -18,6 +22,10 @@ pub record Proper (s : Witness) : Type 0 where
   pub whole : s .i < 10 ^ maxDigits
   pub fraction : s .f .0 < 10 ^ maxPlaces
   pub ranked : spotRank s ≤ ranks
+
+-- the rank of the least number at e whose f is 0, or whose f is not
+abbrev pub kindSpot : Bool → ℕ → List Relation → ℕ
+kindSpot whole e c = if ltb (kindRank whole e c) block then e * block + kindRank whole e c else ranks
 
 -- the answer for the rules of indices p and q, where q is below n
 abbrev pub answered : ℕ → ℕ → ℕ → Witness → Checked → Checked

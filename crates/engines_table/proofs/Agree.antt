@@ -8,8 +8,7 @@ use borrow.Author.Tests.{eqb-true, eq-eqb, ne-eqb}
 use Rattle.decimal.specs.Choice.{both}
 use Rattle.answer.specs.declared.Pair.{Pair}
 use Rattle.answer.specs.declared.Witness.{Witness}
-use Rattle.rules.specs.Held.{heldRules}
-use Rattle.rules.specs.declared.Pack.{Pack}
+use Rattle.rules.specs.Held.{Pack, heldRules}
 use Rattle.clash_laws.specs.Check.{checkOf}
 use Rattle.clash_laws.specs.declared.Checked.{Checked}
 use Rattle.clash_laws.specs.declared.Checked.the-variants.{Passes, Clashes}

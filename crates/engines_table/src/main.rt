@@ -3,7 +3,7 @@
 // is not read gets `!` and the number and place of its refusal.
 ghost use mathlib.Core.Path.{_≡_};
 ghost use Rattle.decimal.specs.Choice.{both};
-ghost use Rattle.rules.specs.Held.{heldRules};
+ghost use Rattle.rules.specs.Held.{heldRules, lent};
 ghost use Rattle.clash_laws.specs.Check.{checkOf};
 ghost use Rattle.engines_table.specs.Same.{samePair, sameNumber, sameClash, sameAnswer};
 use answer::Pair;
@@ -12,8 +12,7 @@ use answer::Witness;
 use clash_laws::Checked;
 use libc::STDIN_FILENO;
 use libc::STDOUT_FILENO;
-use pack::Verdict;
-use rules::Pack;
+use pack::Read;
 
 // What the two engines answer for one pack.
 pub struct Answers {
@@ -22,22 +21,44 @@ pub struct Answers {
 }
 
 // Both answers: they are equal, for every pack.
-fn ask_both(p: Pack) -> Answers
-    ensures { λ r. ⌜ (r .fast ≡ r .plain) × (r .plain ≡ checkOf (heldRules p)) ⌝ }
+fn ask_both<'a>(
+    operand: &'a [u8; 320],
+    modulus: &'a [u32; 320],
+    negated: &'a [bool; 320],
+    ranges: &'a [usize; 320],
+    low: &'a [u32; 2048],
+    high: &'a [u32; 2048],
+    relations: &'a [usize; 40],
+    keyword: &'a [u8; 6],
+    clauses: &'a [usize; 6],
+    count: usize,
+) -> Answers
+    ensures { λ r. ⌜ (r .fast ≡ r .plain) × (r .plain ≡ checkOf (heldRules (lent (now (low .entry)) (now (high .entry)) (now (operand .entry)) (now (modulus .entry)) (now (negated .entry)) (now (ranges .entry)) (now (relations .entry)) (now (keyword .entry)) (now (clauses .entry)) count))) ⌝ }
 {
     let fast = clash::check(
-        &p.operand,
-        &p.modulus,
-        &p.negated,
-        &p.ranges,
-        &p.low,
-        &p.high,
-        &p.relations,
-        &p.keyword,
-        &p.clauses,
-        p.count,
+        operand,
+        modulus,
+        negated,
+        ranges,
+        low,
+        high,
+        relations,
+        keyword,
+        clauses,
+        count,
     );
-    let plain = plain_check::check(p);
+    let plain = plain_check::check(
+        operand,
+        modulus,
+        negated,
+        ranges,
+        low,
+        high,
+        relations,
+        keyword,
+        clauses,
+        count,
+    );
     Answers {
         fast: fast,
         plain: plain,
@@ -164,11 +185,42 @@ fn print_refusal(r: Refusal) {
     print_text(b"\n");
 }
 
-fn print_check(p: Pack) {
-    let v = pack::verdict_of(p.row, p.place);
-    match v {
-        Verdict::Good => print_answers(ask_both(p)),
-        Verdict::Refused(x) => print_refusal(x),
+fn print_check(pack: &[u8]) {
+    let mut low: [u32; 2048] = [0; 2048];
+    let mut high: [u32; 2048] = [0; 2048];
+    let mut operand: [u8; 320] = [0; 320];
+    let mut modulus: [u32; 320] = [0; 320];
+    let mut negated = [false; 320];
+    let mut ranges: [usize; 320] = [0; 320];
+    let mut relations: [usize; 40] = [0; 40];
+    let mut keyword: [u8; 6] = [0; 6];
+    let mut clauses: [usize; 6] = [0; 6];
+    let read = pack::read_pack(
+        pack,
+        &mut low,
+        &mut high,
+        &mut operand,
+        &mut modulus,
+        &mut negated,
+        &mut ranges,
+        &mut relations,
+        &mut keyword,
+        &mut clauses,
+    );
+    match read {
+        Read::Rules(count) => print_answers(ask_both(
+            &operand,
+            &modulus,
+            &negated,
+            &ranges,
+            &low,
+            &high,
+            &relations,
+            &keyword,
+            &clauses,
+            count,
+        )),
+        Read::Refused(x) => print_refusal(x),
     }
 }
 
@@ -177,7 +229,7 @@ fn print_all(input: &[u8]) {
     while from < input.len() {
         let rest = decimal::cut::after(input, from);
         let n = decimal::scan::run_until(rest, 10);
-        print_check(pack::read_pack(decimal::cut::upto(rest, n)));
+        print_check(decimal::cut::upto(rest, n));
         from = line::next_line(from, n, input.len());
     }
 }

@@ -39,10 +39,6 @@ seek-least P (suc n) k = go (P k) refl (seek-least P n (suc k))
     go true e l = record { low = omega arith; high = omega arith; none = λ j a b. absurd (omega arith); hit = λ _. e }
     go false e l = subst (λ (x : ℕ). Least P k x (seek P n (suc k))) (omega arith) (step P k (suc k + n) _ e (omega arith) l)
 
--- a least number is what `seek` finds
-pub least-seek : {P : ℕ → Bool} {lo r : ℕ} (n : ℕ) → Least P lo (lo + n) r → r ≡ seek P n lo
-least-seek {P} {lo} n l = least-one l (seek-least P n lo)
-
 -- the bounds of a search that is at its end
 pub least-start : (P : ℕ → Bool) (lo hi : ℕ) → lo ≤ hi → P lo ≡ true → Least P lo hi lo
 least-start P lo hi h e = record { low = omega arith; high = h; none = λ j a b. absurd (omega arith); hit = λ _. e }

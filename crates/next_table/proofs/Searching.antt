@@ -64,6 +64,20 @@ module _ (q : Query) (c : List Relation) (e : levelled q c ≡ true) where
   least-empty lo hi h n =
       least-none (passesAll q c) lo hi h (λ x _ _. levelled-split q c x e ∙ and-false-right (own q c window x) (n x))
 
+  -- the window leaves no number before p
+  module _ {lo hi p : ℕ} (w : Least (own q c window) lo hi p) where
+    pub window-none : (x : ℕ) → lo ≤ x → x < p → passesAll q c x ≡ false
+    window-none x a b = levelled-split q c x e ∙ and-false-left (below q c levels x) (w .none x a b)
+
+    pub window-past : lo ≤ hi → hi ≤ p → Least (passesAll q c) lo hi hi
+    window-past l h = least-none (passesAll q c) lo hi l (λ x a b. window-none x a (omega arith))
+
+    pub window-hit : p < hi → passesAll q c p ≡ true → Least (passesAll q c) lo hi p
+    window-hit h t = record { low = w .low; high = w .high; none = window-none; hit = λ _. t }
+
+    pub window-on : {r : ℕ} → Least (passesAll q c) p hi r → Least (passesAll q c) lo hi r
+    window-on l = least-after (w .low) window-none l
+
   -- the levels ask nothing
   below-free : (J x : ℕ) → ((j : ℕ) → j < J → (x : ℕ) → own q c j x ≡ true) → below q c J x ≡ true
   unfolding below

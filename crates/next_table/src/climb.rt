@@ -5,6 +5,7 @@ ghost use Rattle.least.specs.Segments.{first, upTo, wrap, climb};
 ghost use Rattle.clash_laws.specs.Read.{cap};
 ghost use Rattle.next_table.specs.Table.{Small, segmentsIn, climbIn};
 ghost use lib.ListN.{getD};
+use runs::range::wide;
 
 // a - b, or 0 where b is larger.
 fn less_by(a: u64, b: u64) -> u64
@@ -17,20 +18,20 @@ fn less_by(a: u64, b: u64) -> u64
 }
 
 // Where the first segment from place k on starts, or m where there is none before place `to`.
-fn start_from(starts: &[u64; 288], ends: &[u64; 288], k: usize, to: usize, m: u64) -> u64
+fn start_from(starts: &[u32; 288], ends: &[u32; 288], k: usize, to: usize, m: u64) -> u64
     requires { ⌜ to ≤ 288 ⌝ }
     ensures { λ r. ⌜ r ≡ first (segmentsIn (now (starts .entry)) (now (ends .entry)) k to) m ⌝ }
 {
     if to <= k {
         return m;
     }
-    starts[k]
+    wide(starts[k])
 }
 
 // The same of the segments from place k on, the first of which ends at r or behind it.
 fn up_from(
-    starts: &[u64; 288],
-    ends: &[u64; 288],
+    starts: &[u32; 288],
+    ends: &[u32; 288],
     k: usize,
     to: usize,
     m: u64,
@@ -40,11 +41,11 @@ fn up_from(
     requires { ⌜ (k < to) × (to ≤ 288) × (r ≤ getD (now ends) k 0) ⌝ }
     ensures { λ o. ⌜ o ≡ upTo (segmentsIn (now (starts .entry)) (now (ends .entry)) k to) m r z ⌝ }
 {
-    let start = starts[k];
+    let start = wide(starts[k]);
     if r <= start {
         return start;
     }
-    if z <= ends[k] {
+    if z <= wide(ends[k]) {
         return z;
     }
     start_from(starts, ends, k + 1, to, m)
@@ -53,8 +54,8 @@ fn up_from(
 // The least remainder from r on, or m where there is none; z is the next number from r on of the
 // levels below.
 fn up_to(
-    starts: &[u64; 288],
-    ends: &[u64; 288],
+    starts: &[u32; 288],
+    ends: &[u32; 288],
     from: usize,
     to: usize,
     m: u64,
@@ -66,7 +67,7 @@ fn up_to(
 {
     let mut k = from;
     while k < to {
-        if r <= ends[k] {
+        if r <= wide(ends[k]) {
             return up_from(starts, ends, k, to, m, r, z);
         }
         k += 1;
@@ -75,7 +76,7 @@ fn up_to(
 }
 
 // A remainder o, or where it is m the first one of the next block of m.
-fn wrap_round(starts: &[u64; 288], ends: &[u64; 288], from: usize, to: usize, m: u64, o: u64) -> u64
+fn wrap_round(starts: &[u32; 288], ends: &[u32; 288], from: usize, to: usize, m: u64, o: u64) -> u64
     requires { ⌜ (to ≤ 288) × (m ≤ 1_000_000) × Small (now starts) ⌝ }
     ensures { λ r. ⌜ r ≡ wrap (segmentsIn (now (starts .entry)) (now (ends .entry)) from to) m o ⌝ }
 {
@@ -88,8 +89,8 @@ fn wrap_round(starts: &[u64; 288], ends: &[u64; 288], from: usize, to: usize, m:
 // The next number from x on of the level with modulus m whose segments stand at `from` to before
 // `to`; y is that of the levels below. A level without segments asks nothing.
 pub fn climb(
-    starts: &[u64; 288],
-    ends: &[u64; 288],
+    starts: &[u32; 288],
+    ends: &[u32; 288],
     from: usize,
     to: usize,
     m: u64,

@@ -5,7 +5,7 @@ ghost use Rattle.rules.specs.Stretch.{table};
 ghost use Rattle.clash_laws.specs.Levels.{own, below};
 ghost use Rattle.clash_laws.specs.Read.{joinedIn};
 ghost use Rattle.clash_laws.specs.Ready.{Fit, Room};
-ghost use Rattle.runs.specs.Kept.{sizeOf, Told, Kept};
+ghost use Rattle.runs.specs.Kept.{sizeOf, Kept, Listed};
 ghost use Rattle.next_table.specs.Table.{Laid, Tabled};
 ghost use Rattle.next_table.specs.Building.{Looked, Opens};
 use crate::Found;
@@ -31,10 +31,11 @@ fn look<'a>(
     high: &'a [u32; 2048],
     s: Span,
     q: Query,
-    tiers: &[usize; 16],
+    list: &[usize; 16],
+    count: usize,
     level: usize,
-    starts: &[u64; 288],
-    ends: &[u64; 288],
+    starts: &[u32; 288],
+    ends: &[u32; 288],
     at: &[usize; 8],
     j: usize,
     p: u64,
@@ -42,7 +43,7 @@ fn look<'a>(
     says: &mut [bool; 16],
     stop: &mut [u64; 16],
 ) -> Found
-    requires { ⌜ Fit q × Room q end × (p < end) × (s .to ≤ 320) × (s .stop ≤ 320) × (sizeOf s ≤ 16) × Told (table (now operand) (now modulus) (now negated) (now ranges) (now low) (now high)) s q (now tiers) ⌝ }
+    requires { ⌜ Fit q × Room q end × (p < end) × (s .to ≤ 320) × (s .stop ≤ 320) × (sizeOf s ≤ 16) × Listed (table (now operand) (now modulus) (now negated) (now ranges) (now low) (now high)) s q level (now list) count ⌝ }
     requires { ⌜ Laid (now starts) (now ends) (now at) j ⌝ }
     requires { ⌜ Tabled (below q (joinedIn (table (now operand) (now modulus) (now negated) (now ranges) (now low) (now high)) s)) (now starts) (now ends) (now at) j ⌝ }
     requires { ⌜ Kept (table (now operand) (now modulus) (now negated) (now ranges) (now low) (now high)) s q level p (now says) (now stop) ⌝ }
@@ -58,7 +59,8 @@ fn look<'a>(
         high,
         s,
         q,
-        tiers,
+        list,
+        count,
         level,
         p,
         says,
@@ -88,10 +90,11 @@ pub fn find<'a>(
     high: &'a [u32; 2048],
     s: Span,
     q: Query,
-    tiers: &[usize; 16],
+    list: &[usize; 16],
+    count: usize,
     level: usize,
-    starts: &[u64; 288],
-    ends: &[u64; 288],
+    starts: &[u32; 288],
+    ends: &[u32; 288],
     at: &[usize; 8],
     j: usize,
     from: u64,
@@ -99,7 +102,7 @@ pub fn find<'a>(
     says: &mut [bool; 16],
     stop: &mut [u64; 16],
 ) -> Found
-    requires { ⌜ Fit q × Room q end × (from ≤ end) × (s .to ≤ 320) × (s .stop ≤ 320) × (sizeOf s ≤ 16) × Told (table (now operand) (now modulus) (now negated) (now ranges) (now low) (now high)) s q (now tiers) ⌝ }
+    requires { ⌜ Fit q × Room q end × (from ≤ end) × (s .to ≤ 320) × (s .stop ≤ 320) × (sizeOf s ≤ 16) × Listed (table (now operand) (now modulus) (now negated) (now ranges) (now low) (now high)) s q level (now list) count ⌝ }
     requires { ⌜ Laid (now starts) (now ends) (now at) j ⌝ }
     requires { ⌜ Tabled (below q (joinedIn (table (now operand) (now modulus) (now negated) (now ranges) (now low) (now high)) s)) (now starts) (now ends) (now at) j ⌝ }
     requires { ⌜ Kept (table (now operand) (now modulus) (now negated) (now ranges) (now low) (now high)) s q level from (now says) (now stop) ⌝ }
@@ -117,7 +120,8 @@ pub fn find<'a>(
             high,
             s,
             q,
-            tiers,
+            list,
+            count,
             level,
             starts,
             ends,

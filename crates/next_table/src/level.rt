@@ -14,6 +14,8 @@ use crate::Built;
 use crate::find;
 use clash_laws::Query;
 use clash_laws::Span;
+use runs::clause::size_of;
+use runs::marks::list_level;
 
 // How many segments a table has room for.
 const ROOM: usize = 288;
@@ -33,8 +35,8 @@ fn fill_level<'a>(
     s: Span,
     q: Query,
     tiers: &[usize; 16],
-    starts: &mut [u64; 288],
-    ends: &mut [u64; 288],
+    starts: &mut [u32; 288],
+    ends: &mut [u32; 288],
     at: &[usize; 8],
     j: usize,
     m: u64,
@@ -48,6 +50,8 @@ fn fill_level<'a>(
 {
     let mut says = [false; 16];
     let mut stop: [u64; 16] = [0; 16];
+    let mut list: [usize; 16] = [0; 16];
+    let count = list_level(tiers, size_of(s), j, &mut list);
     let mut n = at[j];
     let mut p: u64 = 0;
     while p < m {
@@ -60,7 +64,8 @@ fn fill_level<'a>(
             high,
             s,
             q,
-            tiers,
+            &list,
+            count,
             j,
             starts,
             ends,
@@ -77,8 +82,8 @@ fn fill_level<'a>(
         if ROOM <= n {
             return ROOM + 1;
         }
-        starts[n] = f.at;
-        ends[n] = f.stop - 1;
+        starts[n] = f.at as u32;
+        ends[n] = (f.stop - 1) as u32;
         n += 1;
         p = f.stop;
     }
@@ -97,8 +102,8 @@ fn add_level<'a>(
     q: Query,
     tiers: &[usize; 16],
     on: bool,
-    starts: &mut [u64; 288],
-    ends: &mut [u64; 288],
+    starts: &mut [u32; 288],
+    ends: &mut [u32; 288],
     at: &mut [usize; 8],
     j: usize,
     m: u64,
@@ -152,8 +157,8 @@ pub fn build<'a>(
     q: Query,
     tiers: &[usize; 16],
     asked: &[bool; 9],
-    starts: &mut [u64; 288],
-    ends: &mut [u64; 288],
+    starts: &mut [u32; 288],
+    ends: &mut [u32; 288],
     at: &mut [usize; 8],
 ) -> Built
     requires { ⌜ Fit q × (s .to ≤ 320) × (s .stop ≤ 320) × (sizeOf s ≤ 16) × Told (table (now operand) (now modulus) (now negated) (now ranges) (now low) (now high)) s q (now tiers) ⌝ }

@@ -8,7 +8,7 @@ use crate::climb;
 
 // The least number from x on that passes the levels below j. Level i is asked once, with the next
 // number of those below it.
-pub fn next(starts: &[u64; 288], ends: &[u64; 288], at: &[usize; 8], j: usize, x: u64) -> u64
+pub fn next(starts: &[u32; 288], ends: &[u32; 288], at: &[usize; 8], j: usize, x: u64) -> u64
     requires { ⌜ Laid (now starts) (now ends) (now at) j × (x ≤ cap) ⌝ }
     ensures { λ r. ⌜ (r ≤ x + 2_000_000) × ((S : ℕ → ℕ → Bool) → Tabled S (now (starts .entry)) (now (ends .entry)) (now (at .entry)) j → Next (S j) x r) ⌝ }
 {

@@ -20,6 +20,7 @@ use runs::clause::clause_run;
 use runs::clause::ends_of;
 use runs::clause::passes_at;
 use runs::clause::size_of;
+use runs::marks::list_level;
 use runs::marks::mark_levels;
 
 // How many relations of a clause have room for what is kept of each.
@@ -77,6 +78,8 @@ fn in_window<'a>(
     requires { ⌜ Fit q × Room q hi × (lo ≤ hi) × (s .to ≤ 320) × (s .stop ≤ 320) × (sizeOf s ≤ 16) × Told (table (now operand) (now modulus) (now negated) (now ranges) (now low) (now high)) s q (now tiers) ⌝ }
     ensures { λ r. ⌜ Least (own q (joinedIn (table (now (operand .entry)) (now (modulus .entry)) (now (negated .entry)) (now (ranges .entry)) (now (low .entry)) (now (high .entry))) s) window) lo hi r ⌝ }
 {
+    let mut list: [usize; 16] = [0; 16];
+    let count = list_level(tiers, size_of(s), WINDOW, &mut list);
     let mut says = [false; 16];
     let mut stop: [u64; 16] = [0; 16];
     let mut p = lo;
@@ -90,7 +93,8 @@ fn in_window<'a>(
             high,
             s,
             q,
-            tiers,
+            &list,
+            count,
             WINDOW,
             p,
             &mut says,
@@ -115,8 +119,8 @@ fn by_table<'a>(
     s: Span,
     q: Query,
     tiers: &[usize; 16],
-    starts: &[u64; 288],
-    ends: &[u64; 288],
+    starts: &[u32; 288],
+    ends: &[u32; 288],
     at: &[usize; 8],
     lo: u64,
     hi: u64,
@@ -127,6 +131,8 @@ fn by_table<'a>(
     requires { ⌜ Tabled (below q (joinedIn (table (now operand) (now modulus) (now negated) (now ranges) (now low) (now high)) s)) (now starts) (now ends) (now at) levels ⌝ }
     ensures { λ r. ⌜ Least (passesAll q (joinedIn (table (now (operand .entry)) (now (modulus .entry)) (now (negated .entry)) (now (ranges .entry)) (now (low .entry)) (now (high .entry))) s)) lo hi r ⌝ }
 {
+    let mut list: [usize; 16] = [0; 16];
+    let count = list_level(tiers, size_of(s), WINDOW, &mut list);
     let mut says = [false; 16];
     let mut stop: [u64; 16] = [0; 16];
     let f = find::find(
@@ -138,7 +144,8 @@ fn by_table<'a>(
         high,
         s,
         q,
-        tiers,
+        &list,
+        count,
         WINDOW,
         starts,
         ends,
@@ -172,8 +179,8 @@ fn in_table<'a>(
     requires { ⌜ ((j : ℕ) → j < 9 → getD (now asked) j false ≡ false → (x : ℕ) → own q (joinedIn (table (now operand) (now modulus) (now negated) (now ranges) (now low) (now high)) s) j x ≡ true) ⌝ }
     ensures { λ r. ⌜ Least (passesAll q (joinedIn (table (now (operand .entry)) (now (modulus .entry)) (now (negated .entry)) (now (ranges .entry)) (now (low .entry)) (now (high .entry))) s)) lo hi r ⌝ }
 {
-    let mut starts: [u64; 288] = [0; 288];
-    let mut ends: [u64; 288] = [0; 288];
+    let mut starts: [u32; 288] = [0; 288];
+    let mut ends: [u32; 288] = [0; 288];
     let mut at: [usize; 8] = [0; 8];
     let b = level::build(
         operand,
@@ -226,7 +233,68 @@ fn asks_remainder(asked: &[bool; 9]) -> bool
     false
 }
 
-// The least number by the levels that the clause asks, or where they do not serve by trying each.
+// The least number by the levels that the clause asks. What is asked of the number itself comes first:
+// where it leaves no number, or its least one passes, there is no table.
+fn by_window<'a>(
+    operand: &'a [u8; 320],
+    modulus: &'a [u32; 320],
+    negated: &'a [bool; 320],
+    ranges: &'a [usize; 320],
+    low: &'a [u32; 2048],
+    high: &'a [u32; 2048],
+    s: Span,
+    q: Query,
+    tiers: &[usize; 16],
+    asked: &[bool; 9],
+    lo: u64,
+    hi: u64,
+) -> u64
+    requires { ⌜ Fit q × Room q hi × (lo ≤ hi) × (s .to ≤ 320) × (s .stop ≤ 320) × (sizeOf s ≤ 16) × Told (table (now operand) (now modulus) (now negated) (now ranges) (now low) (now high)) s q (now tiers) ⌝ }
+    requires { ⌜ levelled q (joinedIn (table (now operand) (now modulus) (now negated) (now ranges) (now low) (now high)) s) ≡ true ⌝ }
+    requires { ⌜ ((j : ℕ) → j < 9 → getD (now asked) j false ≡ false → (x : ℕ) → own q (joinedIn (table (now operand) (now modulus) (now negated) (now ranges) (now low) (now high)) s) j x ≡ true) ⌝ }
+    ensures { λ r. ⌜ Least (passesAll q (joinedIn (table (now (operand .entry)) (now (modulus .entry)) (now (negated .entry)) (now (ranges .entry)) (now (low .entry)) (now (high .entry))) s)) lo hi r ⌝ }
+{
+    let p = in_window(
+        operand,
+        modulus,
+        negated,
+        ranges,
+        low,
+        high,
+        s,
+        q,
+        tiers,
+        lo,
+        hi,
+    );
+    if hi <= p {
+        return hi;
+    }
+    if !asks_remainder(asked) {
+        return p;
+    }
+    if lo < p {
+        if passes_at(operand, modulus, negated, ranges, low, high, s, q, p) {
+            return p;
+        }
+    }
+    in_table(
+        operand,
+        modulus,
+        negated,
+        ranges,
+        low,
+        high,
+        s,
+        q,
+        tiers,
+        asked,
+        p,
+        hi,
+    )
+}
+
+// The same, or where the levels do not serve by trying each.
 fn by_levels<'a>(
     operand: &'a [u8; 320],
     modulus: &'a [u32; 320],
@@ -262,23 +330,7 @@ fn by_levels<'a>(
     if asked[STRAY] {
         return try_each(operand, modulus, negated, ranges, low, high, s, q, lo, hi);
     }
-    if asks_remainder(&asked) {
-        return in_table(
-            operand,
-            modulus,
-            negated,
-            ranges,
-            low,
-            high,
-            s,
-            q,
-            &tiers,
-            &asked,
-            lo,
-            hi,
-        );
-    }
-    in_window(
+    by_window(
         operand,
         modulus,
         negated,
@@ -288,6 +340,7 @@ fn by_levels<'a>(
         s,
         q,
         &tiers,
+        &asked,
         lo,
         hi,
     )

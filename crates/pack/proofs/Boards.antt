@@ -5,7 +5,7 @@ use mathlib.Core.List.{List, []}
 use Prim.Native.Nat.{ℕ, _+_, _-_, _≤_, _<_}
 use native.Mathlib.Omega.{arith}
 use lib.Dec.{eqb, ltb}
-use lib.ListN.{length, take, drop, replicate, drop-of-length-le, length-drop, length-replicate}
+use lib.ListN.{length, take, drop, drop-of-length-le, length-drop}
 use lib.Seq.{drop-drop}
 use borrow.Author.Tests.{lt-ltb, le-ltb, ltb-true, ltb-false}
 use Rattle.decimal.specs.Choice.{if_then_else_}
@@ -22,7 +22,7 @@ use Rattle.walk.specs.declared.Current.{Current}
 use Rattle.walk.specs.declared.Walk.{Walk}
 use Rattle.walk.specs.declared.Step.{Step}
 use Rattle.walk.proofs.Walks.{walk-value}
-use Rattle.pack.specs.Board.{Arrays, arraysOf, setIf, filled, Board, tokenAt, boardAfter, boards, startWalk, within4096, Sized}
+use Rattle.pack.specs.Board.{Arrays, arraysOf, setIf, filled, Board, tokenAt, boardAfter, boards, startWalk, within4096}
 
 pub filled-is : (k v : ℕ) (x : Closes) (c d : Counts) (o : Current) (a : Arrays) {low high operand modulus ranges relations keyword clauses : List ℕ} {negated : List Bool}
     → low ≡ setIf (eqb k 7) (a .low) (c .ranges) v
@@ -136,7 +136,6 @@ skipped s end from at b k =
 -- one token, and the white space behind it
 pub record Onward (b e : Board) (s end : Text) (at next : ℕ) : Type 0 where
   pub rest : ahead s end next e ≡ ahead s end at b
-  pub more : at < next
   pub within : next ≤ length s + 1
 
 pub onward : (b e : Board) (s end : Text) (at m next : ℕ) → e ≡ boardAfter b (tokenAt s end at m) at → whiteLen (drop at s) ≡ 0 → m ≡ tokenLen (drop at s) → at ≤ length s
@@ -145,7 +144,6 @@ onward b e s end at m next he hw hm h k =
     let z = step b e s end at 0 m he (sym hw) hm h in
     record {
       rest = skipped s end (at + m) next e k ∙ z .rest;
-      more = omega (arith, z .some, k .onward);
       within = omega (arith, z .within, k .bound);
     }
 
@@ -164,14 +162,17 @@ stands-first s end a at w h k =
       rest = skipped s end 0 at (record { walk = w; arrays = a }) k ∙ starting s end a w h;
     }
 
-pub record Takes (s end : Text) (first : Arrays) (at next : ℕ) (w : Walk) (a : Arrays) : Type 0 where
-  pub stands : Stands s end first next w a
-  pub more : at < next
-
-pub token-ends : (s : Text) (at m : ℕ) → whiteLen (drop at s) ≡ 0 → m ≡ tokenLen (drop at s) → at ≤ length s → at + m ≤ length s + 1
+-- a token is some bytes, and ends in the text or with the end behind it
+pub token-ends : (s : Text) (at m : ℕ) → whiteLen (drop at s) ≡ 0 → m ≡ tokenLen (drop at s) → at ≤ length s → (0 < m) × (at + m ≤ length s + 1)
 token-ends s at m hw hm h =
     let b : Board = record { walk = startWalk; arrays = arraysOf [] [] [] [] [] [] [] [] [] } in
-    step b (boardAfter b (tokenAt s [] at m) at) s [] at 0 m refl (sym hw) hm h .within
+    let z = step b (boardAfter b (tokenAt s [] at m) at) s [] at 0 m refl (sym hw) hm h in
+    (z .some, z .within)
+
+-- so each turn leaves less
+pub token-less : (s : Text) (at m next : ℕ) → whiteLen (drop at s) ≡ 0 → m ≡ tokenLen (drop at s) → at ≤ length s → Skipped s (at + m) next
+    → (length s + 1) - next < (length s + 1) - at
+token-less s at m next hw hm h k = omega (arith, token-ends s at m hw hm h .0, k .onward)
 
 pub takes : {s end : Text} {first a : Arrays} {at : ℕ} {w : Walk} → Stands s end first at w a → (t : Text) (m next : ℕ)
     {less : ℕ} {low high twice operand modulus ranges relations keyword clauses : List ℕ} {negated : List Bool}
@@ -187,7 +188,7 @@ pub takes : {s end : Text} {first a : Arrays} {at : ℕ} {w : Walk} → Stands s
     → relations ≡ setIf (g .closes .clause) (a .relations) (w .counts .clauses) (g .walk .counts .relations)
     → keyword ≡ setIf (g .closes .rule) (a .keyword) (w .counts .rules) (w .current .key)
     → clauses ≡ setIf (g .closes .rule) (a .clauses) (w .counts .rules) (g .walk .counts .clauses)
-    → Takes s end first at next (g .walk) (arraysOf low twice operand modulus negated ranges relations keyword clauses)
+    → Stands s end first next (g .walk) (arraysOf low twice operand modulus negated ranges relations keyword clauses)
 takes {s} {end} {first} {a} {at} {w} i t m next {less} {low} {high} {twice} {operand} {modulus} {ranges} {relations} {keyword} {clauses} {negated} ht hm h hs hl g hg e1 e2 e3 e4 e5 e6 e7 e8 e9 e10 =
     let b : Board = record { walk = w; arrays = a } in
     let k = phaseNumber (w .phase) in
@@ -207,8 +208,8 @@ takes {s} {end} {first} {a} {at} {w} i t m next {less} {low} {high} {twice} {ope
     (e10 ∙ ap (λ (y : Step). setIf (y .closes .rule) (a .clauses) (c .rules) (y .walk .counts .clauses)) hg) in
     let r = board-is b t at {k = k} {v = valueAt k t} {x = closesAt k t} {q = stepAfter t at (a .keyword) w .walk} refl refl refl refl f in
     let z = onward b _ s end at m next (r ∙ ap (λ (y : Text). boardAfter b y at) ht) (i .none) hm h hs in
-    subst (λ (y : Walk). Takes s end first at next y (arraysOf low twice operand modulus negated ranges relations keyword clauses)) (sym (ap (λ (y : Step). y .walk) hg))
-    (record { stands = record { within = z .within; none = hs .none; rest = z .rest ∙ i .rest }; more = z .more })
+    subst (λ (y : Walk). Stands s end first next y (arraysOf low twice operand modulus negated ranges relations keyword clauses)) (sym (ap (λ (y : Step). y .walk) hg))
+    (record { within = z .within; none = hs .none; rest = z .rest ∙ i .rest })
 
 pub stands-last : {s end : Text} {first a : Arrays} {at : ℕ} {w : Walk} → Stands s end first at w a → length s < at
     → record { walk = w; arrays = a } ≡ boardAfter (boards (record { walk = startWalk; arrays = first }) (tokens 0 s)) end (length s)
@@ -216,23 +217,3 @@ stands-last {s} {end} {first} {a} {at} {w} i h = rw (lt-ltb (length s) at h) at 
 
 pub within-le : (text s : Text) → s ≡ within4096 text → length s ≤ 4096
 within-le text s e = subst (λ (l : Text). length l ≤ 4096) (sym e) (choice (λ (l : Text). length l ≤ 4096) (ltb maxBytes (length text)) (λ _. omega arith) (λ k. ltb-false maxBytes (length text) k))
-
--- the arrays as they are made
-abbrev pub made : Arrays
-made =
-    arraysOf (replicate 2048 0) (replicate 2048 0) (replicate 320 0) (replicate 320 0) (replicate 320 false) (replicate 320 0) (replicate 40 0)
-    (replicate 6 0) (replicate 6 0)
-
-pub made-sized : Sized made
-made-sized =
-    record {
-      low = length-replicate {A = ℕ} 2048 0;
-      high = length-replicate {A = ℕ} 2048 0;
-      operand = length-replicate {A = ℕ} 320 0;
-      modulus = length-replicate {A = ℕ} 320 0;
-      negated = length-replicate {A = Bool} 320 false;
-      ranges = length-replicate {A = ℕ} 320 0;
-      relations = length-replicate {A = ℕ} 40 0;
-      keyword = length-replicate {A = ℕ} 6 0;
-      clauses = length-replicate {A = ℕ} 6 0;
-    }

@@ -10,8 +10,7 @@ use borrow.Author.Tests.{ltb-false, le-ltb}
 use Rattle.decimal.specs.Choice.{if_then_else_}
 use Rattle.decimal.proofs.Choices.{choice, tested, not-both}
 use Rattle.rules.specs.Syntax.{Relation}
-use Rattle.rules.specs.Held.{heldRules}
-use Rattle.rules.specs.declared.Pack.{Pack}
+use Rattle.rules.specs.Held.{heldRules, lent}
 use Rattle.token.specs.Spelling.{same}
 use Rattle.token.specs.Token.{dots, differ, Token, tokens}
 use Rattle.token.proofs.Pieces.{Placed, placed-le, placed}
@@ -23,14 +22,9 @@ use Rattle.grammar.specs.RuleOf.{ruleOf}
 use Rattle.grammar.specs.Steps.{Front, State, goOn, signed, step, Read, ends}
 use Rattle.grammar.specs.Steps.State.{WantsName, WantsColon, WantsNothing, WantsOperand, HasOperand, WantsModulus, HasModulus, WantsValue, HasValue, WantsUpper, HasUpper, Dead as Died}
 use Rattle.grammar.specs.Steps.Read.{Whole, Cut}
-use Rattle.grammar.specs.Reader.{isDead, Parsed, Fault, orElse, faultAt, rowOf, PackAnswer, segments, rulesFrom, faultFrom, judge, readPack}
+use Rattle.grammar.specs.Reader.{isDead, Parsed, Fault, orElse, faultAt, PackAnswer, judge, readPack}
 use Rattle.grammar.specs.Reader.Parsed.{Trees, Bad}
 use Rattle.grammar.specs.Reader.Fault.{None, At}
-use Rattle.grammar.specs.Reader.PackAnswer.{Rules, Refused as AnswerRefused}
-use Rattle.answer.specs.Table.{packRow}
-use Rattle.answer.specs.declared.PackRow.{PackRow}
-use Rattle.answer.specs.declared.PackRow.the-variants.{NotAPack, ValueTooLarge, UnlistedModulus, RangeReversed, BadKeyword, TooMany}
-use Rattle.answer.specs.declared.Refusal.the-variants.{PackTooLong, Pack as OfPack}
 use Rattle.grammar.specs.WellFormed.{texts}
 use Rattle.grammar.proofs.Places.{or-0, or-1}
 use Rattle.grammar.proofs.Viable.{Far, closed, onward, far, outset, halt, last}
@@ -45,11 +39,10 @@ use Rattle.walk.specs.declared.Counts.{Counts}
 use Rattle.walk.specs.declared.Current.{Current}
 use Rattle.walk.specs.declared.Mark.{Mark}
 use Rattle.walk.specs.declared.Walk.{Walk}
-use Rattle.pack.specs.Answer.{verdictAt, verdictOf, rulesOf, rowIn, placeOf, ReadAs}
-use Rattle.pack.specs.Board.{Arrays, Sized, Board, boardAfter, boards, startWalk, within4096, faultVerdict, judged, judgedAll, counted, outcomeOf, lastBoard, packOf}
-use Rattle.pack.specs.declared.Outcome.{Outcome as Numbers}
-use Rattle.pack.specs.declared.Verdict.{Verdict}
-use Rattle.pack.specs.declared.Verdict.the-variants.{Good, Refused}
+use Rattle.pack.specs.Answer.{readOf, rulesOf, countIn, ReadAs}
+use Rattle.pack.specs.Board.{Arrays, Sized, Board, boardAfter, boards, startWalk, within4096, readBy, judged, judgedAll, lastBoard, packOf}
+use Rattle.pack.specs.declared.Read.{Read as Returned}
+use Rattle.pack.specs.declared.Read.the-variants.{Rules as Counted}
 use Rattle.pack.specs.Bounds.{flat}
 use Rattle.pack.proofs.Flats.{held-back}
 use Rattle.pack.proofs.Tally.{no-tally}
@@ -274,35 +267,36 @@ held d c a at b =
     (b .kept .ranges) (b .kept .relations) (b .kept .clauses) (b .kept .rules)
     (append-nil (flat (map (λ (r : Relation). r .ranges) (Rs d none)))) (append-nil (flat (Cs d none))) (append-nil (closedClauses d)) (b .keyed)
 
-fault-verdict : (row place : ℕ) (f : Fault) (rs : List RuleTree) → faultAt row place ≡ f → faultVerdict row place ≡ verdictOf (judge (Trees rs) f)
-fault-verdict row place f rs e = go (eqb row 0) refl e
+-- a fault's row and place give the answer, and so does the count of rules where there is none
+by-fault : (row place n : ℕ) (f : Fault) (rs : List RuleTree) → faultAt row place ≡ f → (f ≡ None → n ≡ length (map ruleOf rs))
+    → readBy row place n ≡ readOf (judge (Trees rs) f)
+by-fault row place n f rs e h = go (eqb row 0) refl e
   where
-    go : (b : Bool) → eqb row 0 ≡ b → (if b then None else At row place) ≡ f → faultVerdict row place ≡ verdictOf (judge (Trees rs) f)
-    go true k e = rw (sym e, k)
+    go : (b : Bool) → eqb row 0 ≡ b → (if b then None else At row place) ≡ f → readBy row place n ≡ readOf (judge (Trees rs) f)
+    go true k e = rw (sym e, k) (ap Counted (h (sym e)))
     go false k e = rw (sym e, k)
 
 pub record Answered (b : Board) (p : Parsed) (f : Fault) : Type 0 where
-  pub verdict : judged (b .walk) ≡ verdictOf (judge p f)
-  pub count : counted (judged (b .walk)) (b .walk .counts .rules) ≡ length (rulesOf (judge p f))
-  pub rules : heldRules (packOf (b .arrays) (counted (judged (b .walk)) (b .walk .counts .rules))) ≡ rulesOf (judge p f)
+  pub answer : judged (b .walk) ≡ readOf (judge p f)
+  pub rules : heldRules (packOf (b .arrays) (countIn (judged (b .walk)))) ≡ rulesOf (judge p f)
 
 answered-bad : (b : Board) (x : ℕ) (f : Fault) → Over b x → Answered b (Bad x) f
 answered-bad b x f h =
-    let v : judged (b .walk) ≡ verdictOf (judge (Bad x) f) = rw (h .phase, h .stop) in
-    record { verdict = v; count = rw v; rules = rw v }
+    let v : judged (b .walk) ≡ readOf (judge (Bad x) f) = rw (h .phase, h .stop) in
+    record { answer = v; rules = rw v }
 
 answered-trees : (b : Board) (d rs : List RuleTree) (f : Fault) (at : ℕ) → b .walk .phase ≡ Name → faultAt (b .walk .mark .row) (b .walk .mark .place) ≡ f
     → (f ≡ None → Base d none [] (b .walk .counts) (b .arrays) at) → rs ≡ d → Answered b (Trees rs) f
 answered-trees b d rs f at e g h q =
-    let v : judged (b .walk) ≡ verdictOf (judge (Trees rs) f) = rw e (fault-verdict (b .walk .mark .row) (b .walk .mark .place) f rs g) in
-    record { verdict = v; count = rw v (size f refl); rules = rw v (go f refl) }
+    let v : judged (b .walk) ≡ readOf (judge (Trees rs) f) = rw e (by-fault (b .walk .mark .row) (b .walk .mark .place) (b .walk .counts .rules) f rs g size) in
+    record { answer = v; rules = rw v (go f refl) }
   where
-    size : (x : Fault) → f ≡ x → counted (verdictOf (judge (Trees rs) x)) (b .walk .counts .rules) ≡ length (rulesOf (judge (Trees rs) x))
-    size None k = h k .kept .rules .count ∙ ap (λ (l : List RuleTree). length (map ruleOf l)) (sym q)
-    size (At n y) k = refl
+    size : f ≡ None → b .walk .counts .rules ≡ length (map ruleOf rs)
+    size k = h k .kept .rules .count ∙ ap (λ (l : List RuleTree). length (map ruleOf l)) (sym q)
 
-    go : (x : Fault) → f ≡ x → heldRules (packOf (b .arrays) (counted (verdictOf (judge (Trees rs) x)) (b .walk .counts .rules))) ≡ rulesOf (judge (Trees rs) x)
-    go None k = held d (b .walk .counts) (b .arrays) at (h k) ∙ ap (map ruleOf) (sym q)
+    go : (x : Fault) → f ≡ x → heldRules (packOf (b .arrays) (countIn (readOf (judge (Trees rs) x)))) ≡ rulesOf (judge (Trees rs) x)
+    go None k =
+        ap (λ (n : ℕ). heldRules (packOf (b .arrays) n)) (sym (size k)) ∙ held d (b .walk .counts) (b .arrays) at (h k) ∙ ap (map ruleOf) (sym q)
     go (At n y) k = refl
 
 pub answered : (a : Arrays) (s : Text) → Sized a → length s ≤ maxBytes → Answered (lastBoard a s) (halt outset (tokens 0 s) (length s)) (faults outset (tokens 0 s))
@@ -327,82 +321,39 @@ answered a s z l = go (halt outset (tokens 0 s) (length s)) refl (outcome (token
 
 -- ANSWER: a short pack's last board has its answer and its rules
 pub answer : (a : Arrays) (s : Text) → Sized a → length s ≤ maxBytes
-    → (judged (lastBoard a s .walk) ≡ verdictOf (readPack s))
-    × (counted (judged (lastBoard a s .walk)) (lastBoard a s .walk .counts .rules) ≡ length (rulesOf (readPack s)))
-    × (heldRules (packOf (lastBoard a s .arrays) (counted (judged (lastBoard a s .walk)) (lastBoard a s .walk .counts .rules))) ≡ rulesOf (readPack s))
+    → ReadAs (readPack s) (judged (lastBoard a s .walk)) (packOf (lastBoard a s .arrays) (countIn (judged (lastBoard a s .walk))))
 answer a s z l =
     let e : readPack s ≡ judge (halt outset (tokens 0 s) (length s)) (faults outset (tokens 0 s)) = rw (read-whole s, le-ltb maxBytes (length s) l) in
     let w = answered a s z l in
-    (w .verdict ∙ ap verdictOf (sym e), w .count ∙ ap (λ (x : PackAnswer). length (rulesOf x)) (sym e), w .rules ∙ ap rulesOf (sym e))
+    record { answer = w .answer ∙ ap readOf (sym e); rules = w .rules ∙ ap rulesOf (sym e) }
 
 -- ---- what `read_pack` returns
 
--- a verdict's row and place are those of the answer
-row-as : (a : PackAnswer) (n : ℕ) → outcomeOf (verdictOf a) n .row ≡ rowIn a
-row-as (Rules rs) n = refl
-row-as (AnswerRefused r) n = refl
-
-place-as : (a : PackAnswer) (n : ℕ) → outcomeOf (verdictOf a) n .place ≡ placeOf a
-place-as (Rules rs) n = refl
-place-as (AnswerRefused r) n = refl
-
-counts-as : (v : Verdict) (n : ℕ) → outcomeOf v n .count ≡ counted v n
-counts-as Good n = refl
-counts-as (Refused r) n = refl
-
--- a short pack's walk, and that of any other, gives the verdict
+-- a short pack's walk, and that of any other, gives the answer
 judged-as : (a e : Arrays) (u : Walk) (s : Text) → Sized a → record { walk = u; arrays = e } ≡ lastBoard a (within4096 s)
-    → (judgedAll (length s) u ≡ verdictOf (readPack s))
-    × (counted (judgedAll (length s) u) (u .counts .rules) ≡ length (rulesOf (readPack s)))
-    × (heldRules (packOf e (counted (judgedAll (length s) u) (u .counts .rules))) ≡ rulesOf (readPack s))
+    → ReadAs (readPack s) (judgedAll (length s) u) (packOf e (countIn (judgedAll (length s) u)))
 judged-as a e u s z q =
     tested (ltb maxBytes (length s))
-    (λ k. (rw k, rw k, rw k))
+    (λ k. record { answer = rw k; rules = rw k })
     (λ k.
     let f : record { walk = u; arrays = e } ≡ lastBoard a s = rw k at q in
     let w = answer a s z (ltb-false maxBytes (length s) k) in
-    let j : judgedAll (length s) u ≡ judged u = rw k in (
-      j ∙ (ap (λ (x : Board). judged (x .walk)) f ∙ w .0),
-      ap (λ (v : Verdict). counted v (u .counts .rules)) j ∙ (ap (λ (x : Board). counted (judged (x .walk)) (x .walk .counts .rules)) f ∙ w .1),
-      ap (λ (v : Verdict). heldRules (packOf e (counted v (u .counts .rules)))) j
-          ∙ (ap (λ (x : Board). heldRules (packOf (x .arrays) (counted (judged (x .walk)) (x .walk .counts .rules)))) f ∙ w .2),
-    ))
+    let j : judgedAll (length s) u ≡ judged u = rw k in
+    record {
+      answer = j ∙ (ap (λ (x : Board). judged (x .walk)) f ∙ w .answer);
+      rules =
+          ap (λ (v : Returned). heldRules (packOf e (countIn v))) j
+          ∙ (ap (λ (x : Board). heldRules (packOf (x .arrays) (countIn (judged (x .walk))))) f ∙ w .rules);
+    })
 
--- the pack of these arrays, with the numbers of the verdict on the walk, is the answer
-pub told : (a e : Arrays) (u : Walk) (s : Text) {v : Verdict} {o : Numbers} → Sized a → record { walk = u; arrays = e } ≡ lastBoard a (within4096 s)
-    → v ≡ judgedAll (length s) u → o ≡ outcomeOf v (u .counts .rules)
-    → (o .row ≡ rowIn (readPack s)) × (o .place ≡ placeOf (readPack s)) × (o .count ≡ length (rulesOf (readPack s)))
-    × (heldRules (packOf e (o .count)) ≡ rulesOf (readPack s))
-told a e u s {v} {o} z q hv ho =
-    let n = u .counts .rules in
-    let w = judged-as a e u s z q in
-    let h : o ≡ outcomeOf (verdictOf (readPack s)) n = ho ∙ ap (λ (x : Verdict). outcomeOf x n) (hv ∙ w .0) in
-    let c : o .count ≡ counted (judgedAll (length s) u) n = ap (λ (x : Numbers). x .count) (ho ∙ ap (λ (x : Verdict). outcomeOf x n) hv) ∙ counts-as (judgedAll (length s) u) n in (
-      ap (λ (x : Numbers). x .row) h ∙ row-as (readPack s) n,
-      ap (λ (x : Numbers). x .place) h ∙ place-as (readPack s) n,
-      c ∙ w .1,
-      ap (λ (k : ℕ). heldRules (packOf e k)) c ∙ w .2,
-    )
+-- whatever arrays of these sizes came first: those that are left, and what is judged of the walk, are the answer
+pub told : (a e : Arrays) (u : Walk) (s : Text) {r : Returned} → Sized a → record { walk = u; arrays = e } ≡ lastBoard a (within4096 s)
+    → r ≡ judgedAll (length s) u → ReadAs (readPack s) r (packOf e (countIn r))
+told a e u s z q h = subst (λ (r : Returned). ReadAs (readPack s) r (packOf e (countIn r))) (sym h) (judged-as a e u s z q)
 
--- ---- the row and the place tell the verdict
-
-row-told : (row : PackRow) (place : ℕ) → verdictAt (packRow row) place ≡ Refused (OfPack row (record { 0 = place }))
-row-told NotAPack place = refl
-row-told ValueTooLarge place = refl
-row-told UnlistedModulus place = refl
-row-told RangeReversed place = refl
-row-told BadKeyword place = refl
-row-told TooMany place = refl
-
-judge-told : (p : Parsed) (f : Fault) → verdictAt (rowIn (judge p f)) (placeOf (judge p f)) ≡ verdictOf (judge p f)
-judge-told (Bad a) f = refl
-judge-told (Trees rs) None = refl
-judge-told (Trees rs) (At n a) = row-told (rowOf n) a
-
-answer-told : (s : Text) → verdictAt (rowIn (readPack s)) (placeOf (readPack s)) ≡ verdictOf (readPack s)
-answer-told s =
-    choice (λ (a : PackAnswer). verdictAt (rowIn a) (placeOf a) ≡ verdictOf a) (ltb maxBytes (length s)) (λ _. refl)
-    (λ _. judge-told (rulesFrom 0 (segments s)) (faultFrom [] 0 (segments s)))
-
-pub verdict-told : (s : Text) (p : Pack) → ReadAs (readPack s) p → verdictAt (p .row) (p .place) ≡ verdictOf (readPack s)
-verdict-told s p r = ap (λ (n : ℕ). verdictAt n (p .place)) (r .row) ∙ (ap (verdictAt (rowIn (readPack s))) (r .place) ∙ answer-told s)
+-- the arrays with so many rules as are told hold the answer's
+pub rules-left : {a : PackAnswer} {r : Returned} {low high operand modulus ranges relations keyword clauses : List ℕ} {negated : List Bool}
+    → ReadAs a r (lent low high operand modulus negated ranges relations keyword clauses (countIn r)) → (n : ℕ) → r ≡ Counted n
+    → heldRules (lent low high operand modulus negated ranges relations keyword clauses n) ≡ rulesOf a
+rules-left {a} {r} {low} {high} {operand} {modulus} {ranges} {relations} {keyword} {clauses} {negated} h n e =
+    ap (λ (k : ℕ). heldRules (lent low high operand modulus negated ranges relations keyword clauses k)) (sym (ap countIn e)) ∙ h .rules

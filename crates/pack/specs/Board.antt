@@ -8,10 +8,8 @@ use lib.Dec.{eqb, ltb}
 use lib.ListN.{length, take, drop, set}
 use Rattle.decimal.specs.Choice.{if_then_else_}
 use Rattle.answer.specs.declared.PackRow.the-variants.{NotAPack}
-use Rattle.answer.specs.Table.{numberOf}
 use Rattle.answer.specs.declared.Refusal.the-variants.{PackTooLong, Pack as OfPack}
-use Rattle.rules.specs.Held.{lent}
-use Rattle.rules.specs.declared.Pack.{Pack}
+use Rattle.rules.specs.Held.{Pack, lent}
 use Rattle.token.specs.Token.{Token, tokens}
 use Rattle.grammar.specs.Limits.{maxBytes}
 use Rattle.grammar.specs.Grammar.{Text, semi}
@@ -23,10 +21,8 @@ use Rattle.walk.specs.declared.Counts.{Counts}
 use Rattle.walk.specs.declared.Closes.{Closes}
 use Rattle.walk.specs.declared.Current.{Current}
 use Rattle.walk.specs.declared.Walk.{Walk}
-use Rattle.pack.specs.Answer.{placeIn}
-use Rattle.pack.specs.declared.Outcome.{Outcome}
-use Rattle.pack.specs.declared.Verdict.{Verdict}
-use Rattle.pack.specs.declared.Verdict.the-variants.{Good, Refused}
+use Rattle.pack.specs.declared.Read.{Read}
+use Rattle.pack.specs.declared.Read.the-variants.{Rules, Refused}
 
 -- ---- the arrays
 
@@ -113,26 +109,18 @@ within4096 s = if ltb maxBytes (length s) then [] else s
 
 -- ---- at the pack's end, behind a last `;`: a rule has been closed there, or nothing could follow
 
-abbrev pub faultVerdict : ℕ → ℕ → Verdict
-faultVerdict row place = if eqb row 0 then Good else Refused (OfPack (rowOf row) (record { 0 = place }))
+-- by the row and place of a fault: n rules where there is none
+abbrev pub readBy : ℕ → ℕ → ℕ → Read
+readBy row place n = if eqb row 0 then Rules n else Refused (OfPack (rowOf row) (record { 0 = place }))
 
-abbrev pub judged : Walk → Verdict
+abbrev pub judged : Walk → Read
 judged w =
-    if eqb (phaseNumber (w .phase)) 0 then faultVerdict (w .mark .row) (w .mark .place) else
+    if eqb (phaseNumber (w .phase)) 0 then readBy (w .mark .row) (w .mark .place) (w .counts .rules) else
     Refused (OfPack NotAPack (record { 0 = w .mark .stop }))
 
--- the verdict on a pack of n bytes
-abbrev pub judgedAll : ℕ → Walk → Verdict
+-- the answer to a pack of n bytes
+abbrev pub judgedAll : ℕ → Walk → Read
 judgedAll n w = if ltb maxBytes n then Refused PackTooLong else judged w
-
-abbrev pub counted : Verdict → ℕ → ℕ
-counted Good n = n
-counted (Refused r) n = 0
-
--- a verdict as numbers, and how many rules there are: none where the pack is refused
-abbrev pub outcomeOf : Verdict → ℕ → Outcome
-outcomeOf Good n = record { row = 0; place = 0; count = n }
-outcomeOf (Refused r) n = record { row = numberOf r; place = placeIn r; count = 0 }
 
 -- ---- the whole pack
 

@@ -1,15 +1,10 @@
 // Checks a pack text: passed, or refusals 20 to 26, or 27 with the first two rules that one admitted
 // number meets and the least such number.
 ghost use mathlib.Core.Path.{_≡_};
-ghost use mathlib.Core.List.{List};
-ghost use Prim.Native.Nat.{ℕ};
-ghost use Rattle.grammar.specs.Reader.{readPack};
-ghost use Rattle.pack.specs.Answer.{ReadAs};
 ghost use Rattle.pack_check.specs.Check.{checkedBy, checkPack};
 use answer::Refusal;
 use clash_laws::Checked;
-use pack::Verdict;
-use rules::Pack;
+use pack::Read;
 
 pub enum PackCheck {
     Passes,
@@ -25,33 +20,46 @@ fn checked_by(c: Checked) -> PackCheck
     }
 }
 
-// A pack that is read, from whatever text. Its arrays are lent: handed on by value, it would be copied.
-fn check_parsed(p: Pack) -> PackCheck
-    ensures { λ r. ⌜ ((s : List ℕ) → ReadAs (readPack s) p → r ≡ checkPack s) ⌝ }
-{
-    let verdict = pack::verdict_of(p.row, p.place);
-    match verdict {
-        Verdict::Good => checked_by(clash::check(
-            &p.operand,
-            &p.modulus,
-            &p.negated,
-            &p.ranges,
-            &p.low,
-            &p.high,
-            &p.relations,
-            &p.keyword,
-            &p.clauses,
-            p.count,
-        )),
-        Verdict::Refused(refusal) => PackCheck::Refused(refusal),
-    }
-}
-
-// A pack that has to be read.
+// A pack that has to be read, into arrays that stand here and are lent from here.
 fn check_read(pack: &[u8]) -> PackCheck
     ensures { λ r. ⌜ r ≡ checkPack (now (pack .entry)) ⌝ }
 {
-    check_parsed(pack::read_pack(pack))
+    let mut low: [u32; 2048] = [0; 2048];
+    let mut high: [u32; 2048] = [0; 2048];
+    let mut operand: [u8; 320] = [0; 320];
+    let mut modulus: [u32; 320] = [0; 320];
+    let mut negated = [false; 320];
+    let mut ranges: [usize; 320] = [0; 320];
+    let mut relations: [usize; 40] = [0; 40];
+    let mut keyword: [u8; 6] = [0; 6];
+    let mut clauses: [usize; 6] = [0; 6];
+    let read = pack::read_pack(
+        pack,
+        &mut low,
+        &mut high,
+        &mut operand,
+        &mut modulus,
+        &mut negated,
+        &mut ranges,
+        &mut relations,
+        &mut keyword,
+        &mut clauses,
+    );
+    match read {
+        Read::Rules(count) => checked_by(clash::check(
+            &operand,
+            &modulus,
+            &negated,
+            &ranges,
+            &low,
+            &high,
+            &relations,
+            &keyword,
+            &clauses,
+            count,
+        )),
+        Read::Refused(refusal) => PackCheck::Refused(refusal),
+    }
 }
 
 // The pack that is `other:` alone has no two rules to meet, and passes unread.

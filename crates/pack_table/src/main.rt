@@ -5,8 +5,7 @@ ghost use lib.ListN.{length};
 use answer::Refusal;
 use libc::STDIN_FILENO;
 use libc::STDOUT_FILENO;
-use pack::Verdict;
-use rules::Pack;
+use pack::Read;
 
 fn wide(x: usize) -> u64 {
     x as u64
@@ -33,11 +32,31 @@ fn print_count(n: usize) {
     io::write_all(STDOUT_FILENO, b"\n");
 }
 
-fn print_reading(p: Pack) {
-    let v = pack::verdict_of(p.row, p.place);
-    match v {
-        Verdict::Good => print_count(p.count),
-        Verdict::Refused(x) => print_refusal(x),
+fn print_reading(pack: &[u8]) {
+    let mut low: [u32; 2048] = [0; 2048];
+    let mut high: [u32; 2048] = [0; 2048];
+    let mut operand: [u8; 320] = [0; 320];
+    let mut modulus: [u32; 320] = [0; 320];
+    let mut negated = [false; 320];
+    let mut ranges: [usize; 320] = [0; 320];
+    let mut relations: [usize; 40] = [0; 40];
+    let mut keyword: [u8; 6] = [0; 6];
+    let mut clauses: [usize; 6] = [0; 6];
+    let read = pack::read_pack(
+        pack,
+        &mut low,
+        &mut high,
+        &mut operand,
+        &mut modulus,
+        &mut negated,
+        &mut ranges,
+        &mut relations,
+        &mut keyword,
+        &mut clauses,
+    );
+    match read {
+        Read::Rules(n) => print_count(n),
+        Read::Refused(x) => print_refusal(x),
     }
 }
 
@@ -60,7 +79,7 @@ fn print_all(input: &[u8]) {
     let mut from = 0;
     while from < input.len() {
         let end = line_end(input, from);
-        print_reading(pack::read_pack(decimal::cut::after(decimal::cut::upto(input, end), from)));
+        print_reading(decimal::cut::after(decimal::cut::upto(input, end), from));
         if end == input.len() {
             return;
         }

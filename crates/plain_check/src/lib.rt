@@ -1,8 +1,7 @@
 // The pack check by its definition: every admitted number is tried in document 01's order, one by one.
 //
 // It answers what crate clash answers, and shares none of its search. It is not made to be quick: for
-// two rules that no number meets it tries some 10^25 numbers. Below the entry the pack's arrays are
-// lent one by one.
+// two rules that no number meets it tries some 10^25 numbers.
 mod first;
 mod limits;
 mod operands;
@@ -10,10 +9,9 @@ mod search;
 
 ghost use mathlib.Core.Path.{_≡_};
 ghost use Prim.Native.Nat.{min};
-ghost use Rattle.rules.specs.Held.{heldRules};
+ghost use Rattle.rules.specs.Held.{heldRules, lent};
 ghost use Rattle.clash_laws.specs.Check.{checkOf};
 use clash_laws::Checked;
-use rules::Pack;
 
 // There is room for six rules.
 fn rule_count(count: usize) -> usize
@@ -22,20 +20,55 @@ fn rule_count(count: usize) -> usize
     if count < 6 { count } else { 6 }
 }
 
-// The check of a parsed pack.
-pub fn check(p: Pack) -> Checked
-    ensures { λ r. ⌜ r ≡ checkOf (heldRules p) ⌝ }
+// Lent as slices the arrays have the lengths that they are declared with; there is nothing else to do.
+fn sized<'a>(
+    operand: &'a [u8],
+    modulus: &'a [u32],
+    negated: &'a [bool],
+    ranges: &'a [usize],
+    low: &'a [u32],
+    high: &'a [u32],
+    relations: &'a [usize],
+    keyword: &'a [u8],
+    clauses: &'a [usize],
+) {}
+
+// The check of the first `count` rules in a parsed pack's arrays.
+pub fn check<'a>(
+    operand: &'a [u8; 320],
+    modulus: &'a [u32; 320],
+    negated: &'a [bool; 320],
+    ranges: &'a [usize; 320],
+    low: &'a [u32; 2048],
+    high: &'a [u32; 2048],
+    relations: &'a [usize; 40],
+    keyword: &'a [u8; 6],
+    clauses: &'a [usize; 6],
+    count: usize,
+) -> Checked
+    ensures { λ r. ⌜ r ≡ checkOf (heldRules (lent (now (low .entry)) (now (high .entry)) (now (operand .entry)) (now (modulus .entry)) (now (negated .entry)) (now (ranges .entry)) (now (relations .entry)) (now (keyword .entry)) (now (clauses .entry)) count)) ⌝ }
 {
-    let n = rule_count(p.count);
+    sized(
+        operand,
+        modulus,
+        negated,
+        ranges,
+        low,
+        high,
+        relations,
+        keyword,
+        clauses,
+    );
+    let n = rule_count(count);
     first::first_pair(
-        &p.operand,
-        &p.modulus,
-        &p.negated,
-        &p.ranges,
-        &p.low,
-        &p.high,
-        &p.relations,
-        &p.clauses,
+        operand,
+        modulus,
+        negated,
+        ranges,
+        low,
+        high,
+        relations,
+        clauses,
         n,
     )
 }

@@ -11,11 +11,11 @@ use Rattle.rules.specs.Stretch.{stretch}
 use Rattle.rules.proofs.Stretches.{stretch-snoc, length-stretch}
 use Rattle.plural.specs.Select.{bit, maskOf, countMet, firstMet}
 
-half-of : (b : Bool) (n : ℕ) → (bit b + 2 * n) / 2 ≡ n
+pub half-of : (b : Bool) (n : ℕ) → (bit b + 2 * n) / 2 ≡ n
 half-of true n = omega arith
 half-of false n = omega arith
 
-low-of : (b : Bool) (n : ℕ) → (bit b + 2 * n) % 2 ≡ bit b
+pub low-of : (b : Bool) (n : ℕ) → (bit b + 2 * n) % 2 ≡ bit b
 low-of true n = omega arith
 low-of false n = omega arith
 

@@ -14,9 +14,8 @@ use Rattle.answer.specs.declared.Pair.{Pair}
 use Rattle.answer.specs.declared.Refusal.the-variants.{TwoRulesMet}
 use Rattle.number.specs.declared.Number.{Number}
 use Rattle.rules.specs.Syntax.{Rule}
-use Rattle.rules.specs.Held.{keywordOf, heldRules}
+use Rattle.rules.specs.Held.{Pack, keywordOf, heldRules}
 use Rattle.rules.specs.Stretch.{stretch, tableOf, ruleAt}
-use Rattle.rules.specs.declared.Pack.{Pack}
 use Rattle.rules.proofs.Stretches.{Sized, length-stretch, held-rules}
 use Rattle.plural.specs.Meaning.{meets}
 use Rattle.plural.specs.Select.{metBy, maskOf, countMet, firstMet, secondMet, keywordAt, pairOf, chosen, selection}

@@ -9,9 +9,8 @@ use lib.Dec.{eqb, eqb·suc-zero}
 use lib.ListN.{length, getD, take, drop, length-take}
 use lib.Seq.{getD-take}
 use Rattle.rules.specs.Syntax.{Range, Relation, Rule}
-use Rattle.rules.specs.Held.{parts, keywordOf, rangesFrom, relationsFrom, rulesFrom, heldRanges, heldRelations, heldClauses, heldRules}
+use Rattle.rules.specs.Held.{Pack, parts, keywordOf, rangesFrom, relationsFrom, rulesFrom, heldRanges, heldRelations, heldClauses, heldRules}
 use Rattle.rules.specs.Stretch.{stretch, startAt, rangeAt, rangesIn, Table, table, tableOf, relationAt, relationsIn, clauseAt, clausesIn, ruleAt}
-use Rattle.rules.specs.declared.Pack.{Pack}
 
 -- ---- stretches
 

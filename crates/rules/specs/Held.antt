@@ -8,7 +8,19 @@ use Rattle.decimal.specs.Choice.{if_then_else_}
 use Rattle.answer.specs.declared.Keyword.{Keyword}
 use Rattle.answer.specs.declared.Keyword.the-variants.{Zero, One, Two, Few, Many, Other}
 use Rattle.rules.specs.Syntax.{Range, Relation, Rule}
-use Rattle.rules.specs.declared.Pack.{Pack}
+
+-- the arrays of a parsed pack (src/lib.rt says what each holds), and how many rules there are
+pub record Pack : Type 0 where
+  pub low : List ℕ
+  pub high : List ℕ
+  pub operand : List ℕ
+  pub modulus : List ℕ
+  pub negated : List Bool
+  pub ranges : List ℕ
+  pub relations : List ℕ
+  pub keyword : List ℕ
+  pub clauses : List ℕ
+  pub count : ℕ
 
 -- the parts of a list that end at these places, one behind the other, the first beginning at `from`
 abbrev pub parts : {A : Type 0} → ℕ → List ℕ → List A → List (List A)
@@ -70,6 +82,4 @@ lent low high operand modulus negated ranges relations keyword clauses count =
       keyword = keyword;
       clauses = clauses;
       count = count;
-      row = 0;
-      place = 0;
     }

@@ -6,8 +6,7 @@ use lib.Dec.{eqb}
 use lib.ListN.{getD}
 use Rattle.decimal.specs.Choice.{if_then_else_}
 use Rattle.rules.specs.Syntax.{Range, Relation, Rule}
-use Rattle.rules.specs.Held.{keywordOf}
-use Rattle.rules.specs.declared.Pack.{Pack}
+use Rattle.rules.specs.Held.{Pack, keywordOf}
 
 -- the n elements g from, g (from + 1), ..
 unfoldable pub stretch : {A : Type 0} → (ℕ → A) → ℕ → ℕ → List A

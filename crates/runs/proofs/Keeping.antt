@@ -2,6 +2,7 @@
 use mathlib.Core.Path.{_≡_, refl, sym, ap, subst, _∙_}
 use mathlib.Core.Bool.{Bool, true, false, not}
 use mathlib.Core.List.{List, [], _∷_, _++_}
+use mathlib.Core.Logic.{⊎-elim}
 use Prim.Native.Nat.{ℕ, zero, suc, _+_, _-_, _%_, _≤_, _<_, min}
 use native.Mathlib.Omega.{arith}
 use native.Mathlib.Nat.{add-zero, add-suc, suc-add, zero-add}
@@ -9,24 +10,24 @@ use native.Mathlib.Decide.{ℕ-discrete}
 use lib.Dec.{eqb}
 use lib.ListN.{length, getD, set}
 use lib.Seq.{getD-set-same, getD-set-other}
-use borrow.Author.Tests.{lt-ltb, le-ltb, eq-eqb, ne-eqb}
+use borrow.Author.Tests.{lt-ltb, le-ltb, eq-eqb, ne-eqb, eqb-true, eqb-false}
 use Rattle.decimal.specs.Choice.{if_then_else_, both}
+use Rattle.decimal.proofs.Choices.{tested}
 use Rattle.rules.specs.Syntax.{Relation}
 use Rattle.rules.specs.Stretch.{stretch, Table, relationAt}
 use Rattle.rules.proofs.Stretches.{stretch-snoc}
 use Rattle.plural.specs.Meaning.{all}
 use Rattle.least.specs.Seek.{Alike}
-use Rattle.least.proofs.Seeking.{and-false-left}
+use Rattle.least.proofs.Seeking.{split, and-false-left, and-false-right}
 use Rattle.clash_laws.specs.Fast.{passes, ends, passesAll}
 use Rattle.clash_laws.specs.Levels.{ownOne, lastDigit, own}
 use Rattle.clash_laws.specs.Read.{cap, joinedIn}
 use Rattle.clash_laws.specs.declared.Query.{Query}
 use Rattle.clash_laws.specs.declared.Span.{Span}
-use Rattle.runs.specs.Kept.{sizeOf, placeOf, Told, Kept}
-use Rattle.runs.specs.Runs.{far, joinedRun}
-use Rattle.runs.specs.declared.Run.{Run}
+use Rattle.runs.specs.Kept.{sizeOf, placeOf, Told, Kept, Gathered, Listed}
+use Rattle.runs.specs.Runs.{far}
 use Rattle.runs.proofs.Levelling.{tier-other}
-use Rattle.runs.proofs.Alikes.{alike-same, alike-all, alike-less, alike-and}
+use Rattle.runs.proofs.Alikes.{alike-all}
 
 -- ---- relations by place
 
@@ -123,10 +124,6 @@ module _ (q : Query) (j p : ℕ) (h : p ≤ cap) where
 -- ---- what is kept
 
 module _ (T : Table) (s : Span) (q : Query) (j : ℕ) where
-  -- it serves for later numbers
-  pub kept-on : (p p′ : ℕ) (says : List Bool) (stop : List ℕ) → p ≤ p′ → Kept T s q j p says stop → Kept T s q j p′ says stop
-  kept-on p p′ says stop h kept k l x a b = kept k l x (omega arith) b
-
   -- where every run is empty, nothing is claimed
   pub kept-none : (p : ℕ) (says : List Bool) (stop : List ℕ) → ((k : ℕ) → getD stop k 0 ≡ 0) → Kept T s q j p says stop
   kept-none p says stop z k l x a b = absurd (omega (arith, z k))
@@ -148,46 +145,121 @@ module _ (T : Table) (s : Span) (q : Query) (j : ℕ) where
       there d =
           kept i l x u (subst (λ (y : ℕ). x < y) (getD-set-other stop k i end 0 d) v) ∙ sym (getD-set-other says k i b false d)
 
-  -- a relation of another level
-  pub other-there : (tiers : List ℕ) (k p : ℕ) → Told T s q tiers → k < sizeOf s → (getD tiers k 0 ≡ j → ⊥) → p ≤ cap
-      → Alike (ownOne q j (relationOf T s k)) p true far
-  other-there tiers k p t l d h = alike-all (omega arith) (λ x. tier-other q (relationOf T s k) (getD tiers k 0) j x (t k l) d)
+-- ---- the relations of a level, listed
 
-  -- ---- the run of the clause
+pub gathered-none : (tiers : List ℕ) (level : ℕ) (list : List ℕ) → Gathered tiers level list 0 0
+gathered-none tiers level list = record { few = omega arith; each = λ i h. absurd (omega arith); covers = λ P f m h. absurd (omega arith) }
 
-  -- what its first k relations, and the last digit, ask
-  abbrev pub First : ℕ → ℕ → Bool
-  First k x = both (lastDigit q j x) (all (λ (r : Relation). ownOne q j r x) (stretch (relationOf T s) 0 k))
+module _ (tiers : List ℕ) (level : ℕ) (list : List ℕ) (n k : ℕ) (g : Gathered tiers level list n k) (h : n < length list) where
+  kept-before : (i : ℕ) → i < n → getD (set list n k) i 0 ≡ getD list i 0
+  kept-before i l = getD-set-other list n i k 0 (λ z. omega arith)
 
-  both-assoc : (a b c : Bool) → both (both a b) c ≡ both a (both b c)
-  both-assoc true b c = refl
-  both-assoc false b c = refl
+  pub gathered-more : (m : ℕ) → eqb (getD tiers k 0) level ≡ true → m ≡ n + 1 → Gathered tiers level (set list n k) m (k + 1)
+  gathered-more m t e =
+      record {
+        few = omega (arith, g .few);
+        each = λ i l.
+            ⊎-elim
+            (λ a. subst (λ (x : ℕ). (x < k + 1) × (getD tiers x 0 ≡ level)) (sym (kept-before i a)) (omega (arith, g .each i a .0), g .each i a .1))
+            (λ a.
+            let z : n ≡ i = omega arith in
+            subst (λ (x : ℕ). (x < k + 1) × (getD tiers x 0 ≡ level)) (sym (ap (λ (y : ℕ). getD (set list n k) y 0) (sym z) ∙ getD-set-same list n k 0 h)) (omega arith, eqb-true (getD tiers k 0) level t))
+            (split i n);
+        covers = λ P f x l u.
+            ⊎-elim
+            (λ a. g .covers P (λ i b. subst (λ (y : ℕ). P y ≡ true) (kept-before i b) (f i (omega arith))) x a u)
+            (λ a. subst (λ (y : ℕ). P y ≡ true) (getD-set-same list n k 0 h ∙ (let z : k ≡ x = omega arith in z)) (f n (omega arith)))
+            (split x k);
+      }
 
-  pub clause-start : (p stop : ℕ) (b : Bool) → Alike (lastDigit q j) p b stop → Alike (First 0) p b stop
-  unfolding stretch
-  clause-start p stop b a = alike-same (λ x. alone (lastDigit q j x)) a
-    where
-      alone : (b : Bool) → b ≡ both b true
-      alone true = refl
-      alone false = refl
+  pub gathered-same : (m : ℕ) → eqb (getD tiers k 0) level ≡ false → m ≡ n + 0 → Gathered tiers level (set list n k) m (k + 1)
+  gathered-same m t e =
+      record {
+        few = omega (arith, g .few);
+        each = λ i l.
+            subst (λ (x : ℕ). (x < k + 1) × (getD tiers x 0 ≡ level)) (sym (kept-before i (omega arith))) (let a = g .each i (omega arith) in (omega (arith, a .0), a .1));
+        covers = λ P f x l u.
+            ⊎-elim
+            (λ a. g .covers P (λ i b. subst (λ (y : ℕ). P y ≡ true) (kept-before i b) (f i (omega arith))) x a u)
+            (λ a. absurd (eqb-false (getD tiers k 0) level t (ap (λ (y : ℕ). getD tiers y 0) (let z : k ≡ x = omega arith in z) ∙ u)))
+            (split x k);
+      }
 
-  pub clause-more : (k p : ℕ) (run r joined : Run) → Alike (First k) p (run .says) (run .stop) → Alike (ownOne q j (relationOf T s k)) p (r .says) (r .stop)
-      → joined ≡ joinedRun run r → Alike (First (k + 1)) p (joined .says) (joined .stop)
-  clause-more k p run r joined a b e = rw e (alike-same next (alike-and run r a b))
-    where
-      next : (x : ℕ) → both (First k x) (ownOne q j (relationOf T s k) x) ≡ First (k + 1) x
-      next x =
-          let f : 0 + k ≡ k = omega arith in
-          both-assoc (lastDigit q j x) (all (λ (r : Relation). ownOne q j r x) (stretch (relationOf T s) 0 k)) (ownOne q j (relationOf T s k) x)
-          ∙ ap (both (lastDigit q j x))
-          (sym (rw (stretch-snoc (relationOf T s) 0 k, f) (all-snoc (λ (r : Relation). ownOne q j r x) (stretch (relationOf T s) 0 k) (relationOf T s k))))
+-- one index more, stored or not
+pub gathered-next : (tiers : List ℕ) (level : ℕ) (list : List ℕ) (n k m o : ℕ) → Gathered tiers level list n k → n < length list → o ≡ (if eqb (getD tiers k 0) level then 1 else 0) → m ≡ n + o → Gathered tiers level (set list n k) m (k + 1)
+gathered-next tiers level list n k m o g h e f =
+    tested (eqb (getD tiers k 0) level)
+    (λ t. gathered-more tiers level list n k g h m t (f ∙ ap (λ (x : ℕ). n + x) (e ∙ rw t)))
+    (λ t. gathered-same tiers level list n k g h m t (f ∙ ap (λ (x : ℕ). n + x) (e ∙ rw t)))
 
-  pub clause-done : (k p stop end : ℕ) (b : Bool) → k ≤ sizeOf s → sizeOf s ≤ k → p ≤ cap → Alike (First k) p b stop → end ≡ min stop far
-      → Alike (own q (joinedIn T s) j) p b end × (end ≤ far)
+module _ (T : Table) (s : Span) (q : Query) (j : ℕ) where
+  pub gathered-listed : (tiers list : List ℕ) (n k : ℕ) → j < 9 → Told T s q tiers → k ≡ sizeOf s → k ≤ 16 → Gathered tiers j list n k → Listed T s q j list n
+  gathered-listed tiers list n k v t e h g =
+      record {
+        level = v;
+        few = omega (arith, g .few);
+        each = λ i l. let a = g .each i l in (omega (arith, a .0), sym (a .1) ∙ t (getD list i 0) (omega (arith, a .0)));
+        covers = λ x f m l.
+            elim (ℕ-discrete (getD tiers m 0) j) [
+              | yes z ↦ g .covers (λ (y : ℕ). ownOne q j (relationOf T s y) x) f m (omega arith) z
+              | no z ↦ tier-other q (relationOf T s m) (getD tiers m 0) j x (t m l) z
+            ];
+      }
+
+-- ---- the run of the clause
+
+all-no : {A : Type 0} (p : A → Bool) (g : ℕ → A) (from n k : ℕ) → from ≤ k → k < from + n → p (g k) ≡ false → all p (stretch g from n) ≡ false
+unfolding stretch
+all-no p g from zero k l h e = absurd (omega arith)
+all-no p g from (suc n) k l h e =
+    elim (ℕ-discrete k from) [
+      | yes z ↦ and-false-left (all p (stretch g (suc from) n)) (subst (λ (x : ℕ). p (g x) ≡ false) z e)
+      | no z ↦ and-false-right (p (g from)) (all-no p g (suc from) n k (omega arith) (omega arith) e)
+    ]
+
+-- the last digit and the first i relations that are listed say yes from p up to `end`
+pub record Agreed (T : Table) (s : Span) (q : Query) (j : ℕ) (list : List ℕ) (p i end : ℕ) : Type 0 where
+  pub some : p < end
+  pub near : end ≤ far
+  pub digit : (x : ℕ) → p ≤ x → x < end → lastDigit q j x ≡ true
+  pub each : (m : ℕ) → m < i → (x : ℕ) → p ≤ x → x < end → ownOne q j (relationOf T s (getD list m 0)) x ≡ true
+
+module _ (T : Table) (s : Span) (q : Query) (j : ℕ) (list : List ℕ) (count p : ℕ) (li : Listed T s q j list count) where
+  pub agreed-start : (b : Bool) (stop : ℕ) → Alike (lastDigit q j) p b stop → b ≡ true → stop ≡ far → Agreed T s q j list p 0 far
+  agreed-start b stop a t e =
+      record { some = omega (arith, a .some); near = omega arith; digit = λ x l h. a .same x l (omega arith) ∙ t; each = λ m h. absurd (omega arith) }
+
+  pub agreed-more : (i end stop e : ℕ) (b : Bool) → Agreed T s q j list p i end → Alike (ownOne q j (relationOf T s (getD list i 0))) p b stop → b ≡ true → e ≡ min end stop → Agreed T s q j list p (i + 1) e
+  agreed-more i end stop e b g a t f =
+      record {
+        some = omega (arith, g .some, a .some);
+        near = omega (arith, g .near);
+        digit = λ x l h. g .digit x l (omega arith);
+        each = λ m h x l k.
+            ⊎-elim (λ u. g .each m u x l (omega arith)) (λ u. subst (λ (y : ℕ). ownOne q j (relationOf T s (getD list y 0)) x ≡ true) (let z : i ≡ m = omega arith in z) (a .same x l (omega arith) ∙ t)) (split m i);
+      }
+
+  -- all say yes; or the last digit, or one relation, says no
+  pub agreed-all : (i end : ℕ) → count ≤ i → Agreed T s q j list p i end → Alike (own q (joinedIn T s) j) p true end
   unfolding own
-  clause-done k p stop end b l m h a e =
-      let n : k ≡ sizeOf s = omega arith in
-      (rw e (alike-same (λ x. rw (joined-by-place T s, n)) (alike-less far (omega arith) a)), omega arith)
+  agreed-all i end h g =
+      record {
+        some = g .some;
+        same = λ x l k. rw (joined-by-place T s, g .digit x l k) (all-stretch (λ (r : Relation). ownOne q j r x) (relationOf T s) 0 (sizeOf s) (λ m u.
+            let z : 0 + m ≡ m = omega arith in rw z (li .covers x (λ i v. g .each i (omega arith) x l k) m u)));
+      }
+
+  pub digit-says-no : (b : Bool) (stop : ℕ) → Alike (lastDigit q j) p b stop → b ≡ false → Alike (own q (joinedIn T s) j) p b stop
+  unfolding own
+  digit-says-no b stop a t = record { some = a .some; same = λ x l k. and-false-left (all (λ (r : Relation). ownOne q j r x) (joinedIn T s)) (a .same x l k ∙ t) ∙ sym t }
+
+  pub one-says-no : (i stop end : ℕ) (b : Bool) → i < count → p ≤ cap → Alike (ownOne q j (relationOf T s (getD list i 0))) p b stop → b ≡ false → end ≡ min stop far → Alike (own q (joinedIn T s) j) p false end
+  unfolding own
+  one-says-no i stop end b h r a t e =
+      record {
+        some = omega (arith, a .some);
+        same = λ x l k. rw (joined-by-place T s) (and-false-right (lastDigit q j x) (all-no (λ (r : Relation). ownOne q j r x) (relationOf T s) 0 (sizeOf s) (getD list i 0) (omega arith) (omega (arith, li .each i h .0)) (a .same x l (omega arith) ∙ t)));
+      }
 
 -- ---- a number against the whole clause
 

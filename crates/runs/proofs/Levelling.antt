@@ -1,6 +1,6 @@
 -- What the code of one relation works out, way by way: its level, and the run of what it asks there.
 use mathlib.Core.Path.{_≡_, refl, sym, ap, subst, _∙_}
-use mathlib.Core.Bool.{Bool, true, false, not}
+use mathlib.Core.Bool.{Bool, true, false, not, true≢false}
 use mathlib.Core.List.{List}
 use mathlib.Core.Logic.{⊎-elim}
 use Prim.Native.Nat.{ℕ, _+_, _-_, _*_, _/_, _%_, _≤_, _<_}
@@ -151,12 +151,6 @@ module _ (q : Query) (r : Relation) (s : ℕ) (e : s ≡ factor q (r .operand)) 
   unfolding tier
   tier-asked l n f = rw (is-asked q r s e n) (sym (level-told l f))
 
-  pub unasked-run : (j p : ℕ) → p < far → s ≡ 0 → Alike (ownOne q j r) p true far
-  unasked-run j p h z = alike-all h (λ x. own-unasked j x z)
-
-  pub other-run : (l j p : ℕ) → p < far → (s ≡ 0 → ⊥) → l ≡ levelOf s (r .modulus) → (l ≡ j → ⊥) → Alike (ownOne q j r) p true far
-  other-run l j p h n f d = alike-all h (λ x. own-other l j x n f d)
-
 -- one of another level asks nothing there
 pub tier-other : (q : Query) (r : Relation) (t j x : ℕ) → t ≡ tier q r → (t ≡ j → ⊥) → ownOne q j r x ≡ true
 unfolding ownOne tier
@@ -166,6 +160,32 @@ tier-other q r t j x e d =
     let h = both-held (asked q r) (eqb (levelIn q r) j) u in
     absurd (d (e ∙ rw (h .0) (eqb-true (levelIn q r) j (h .1)))))
     (λ u. refl)
+
+-- the level that is told of one that is asked
+pub tier-level : (q : Query) (r : Relation) (s j : ℕ) → s ≡ factor q (r .operand) → (s ≡ 0 → ⊥) → j ≡ tier q r → j ≡ levelOf s (r .modulus)
+unfolding tier
+tier-level q r s j e n t = t ∙ rw (ne-eqb (factor q (r .operand)) 0 (λ z. n (e ∙ z))) (ap (λ (x : ℕ). levelOf x (r .modulus)) (sym e))
+
+-- so one that is told a level is asked
+pub told-asked : (q : Query) (r : Relation) (j : ℕ) → j < 9 → j ≡ tier q r → factor q (r .operand) ≡ 0 → ⊥
+unfolding tier
+told-asked q r j h t z = let e : j ≡ 9 = t ∙ rw (eq-eqb (factor q (r .operand)) 0 z) in omega arith
+
+-- its factor is 1, but for f
+pub factor-one : (q : Query) (o : ℕ) → Fit q → (factor q o ≡ 0 → ⊥) → (o ≡ 102 → ⊥) → 1 ≡ factor q o
+unfolding factor
+factor-one q o f n d = go (q .n) (q .i) (q .f) (q .t) (eqb o 110) (eqb o 105) (eqb o 102) (eqb o 116) (ne-eqb o 102 d) (f .n) (f .i) (f .t) n
+  where
+    one : (x : ℕ) → x ≤ 1 → (x ≡ 0 → ⊥) → 1 ≡ x
+    one x h k = omega arith
+
+    go : (x y w z : ℕ) (a b e c : Bool) → e ≡ false → x ≤ 1 → y ≤ 1 → z ≤ 1 → ((if a then x else if b then y else if e then w else if c then z else 0) ≡ 0 → ⊥)
+        → 1 ≡ (if a then x else if b then y else if e then w else if c then z else 0)
+    go x y w z true b e c k l m o u = one x l u
+    go x y w z false true e c k l m o u = one y m u
+    go x y w z false false true c k l m o u = absurd (true≢false k)
+    go x y w z false false false true k l m o u = one z o u
+    go x y w z false false false false k l m o u = absurd (u refl)
 
 -- ---- a run of multiples
 

@@ -1,23 +1,24 @@
--- One pass over ranges: where those that hold a value end, and where the next one begins.
-use mathlib.Core.Path.{_≡_, refl, sym, ap, _∙_}
+-- One pass over ranges: where the first that holds a value ends, or where the next one begins.
+use mathlib.Core.Path.{_≡_, refl, sym, ap, subst, _∙_}
 use mathlib.Core.Bool.{Bool, true, false}
 use mathlib.Core.List.{List, [], _∷_, _++_}
-use mathlib.Core.Logic.{⊎-elim}
-use Prim.Native.Nat.{ℕ, _+_, _-_, _≤_, _<_, min, max}
+use Prim.Native.Nat.{ℕ, zero, suc, _+_, _-_, _≤_, _<_, min}
 use native.Mathlib.Omega.{arith}
+use native.Mathlib.Decide.{ℕ-discrete}
 use lib.Dec.{leb, ltb}
 use lib.ListN.{getD}
-use borrow.Author.Tests.{lt-ltb, le-ltb, ltb-true, ltb-false, le-leb, lt-leb}
-use Rattle.decimal.specs.Choice.{either}
+use borrow.Author.Tests.{lt-ltb, le-ltb, ltb-true, ltb-false, leb-true, leb-false, le-leb, lt-leb}
+use Rattle.decimal.specs.Choice.{both, either}
 use Rattle.decimal.proofs.Choices.{tested}
 use Rattle.rules.specs.Syntax.{Range}
 use Rattle.rules.specs.Stretch.{stretch, rangeAt, rangesIn}
 use Rattle.rules.proofs.Stretches.{stretch-snoc}
 use Rattle.plural.specs.Meaning.{any, inRange}
 use Rattle.least.specs.Seek.{Alike}
-use Rattle.least.proofs.Seeking.{split, and-true, and-false-left, and-false-right, or-false, or-true-left, or-true-right}
+use Rattle.least.proofs.Seeking.{and-true, and-false-left, and-false-right, or-false, or-true-left, or-true-right}
 use Rattle.clash_laws.specs.Read.{cap}
-use Rattle.runs.specs.Runs.{far, endWith, nextWith}
+use Rattle.clash_laws.proofs.Searched.{both-held}
+use Rattle.runs.specs.Runs.{far, nextWith}
 use Rattle.runs.proofs.Alikes.{alike-same}
 
 -- a value before a range, behind it, in it
@@ -43,89 +44,14 @@ any-snoc p (y ∷ xs) x = ap (either (p y)) (any-snoc p xs x) ∙ assoc (p y) (a
     assoc true b c = refl
     assoc false b c = refl
 
--- P is the test by the ranges so far: where none holds y, none holds a number before `next`; else one holds every number before `end`
-pub record Swept (P : ℕ → Bool) (y end next : ℕ) : Type 0 where
-  pub ahead : y < next
-  pub near : next ≤ far
-  pub small : end ≤ far
-  pub none : end ≡ 0 → (z : ℕ) → y ≤ z → z < next → P z ≡ false
-  pub longer : 0 < end → y < end
-  pub some : 0 < end → (z : ℕ) → y ≤ z → z < end → P z ≡ true
-
--- the test by one range more
-abbrev More : (ℕ → Bool) → Range → ℕ → Bool
-More P r z = either (P z) (inRange z r)
-
--- a range after y, one before it, and one that holds it
-module _ {P : ℕ → Bool} {y end next : ℕ} (r : Range) (s : Swept P y end next) where
-  swept-after : y < r .low → Swept (More P r) y end (min next (r .low))
-  swept-after h =
-      record {
-        ahead = omega (arith, s .ahead);
-        near = omega (arith, s .near);
-        small = s .small;
-        none = λ e z l k. or-false (s .none e z l (omega arith)) (before-range r z (omega arith));
-        longer = s .longer;
-        some = λ e z l k. or-true-left (inRange z r) (s .some e z l k);
-      }
-
-  swept-behind : r .high < y → Swept (More P r) y end next
-  swept-behind h =
-      record {
-        ahead = s .ahead;
-        near = s .near;
-        small = s .small;
-        none = λ e z l k. or-false (s .none e z l k) (behind-range r z (omega arith));
-        longer = s .longer;
-        some = λ e z l k. or-true-left (inRange z r) (s .some e z l k);
-      }
-
-  swept-in : r .low ≤ y → y ≤ r .high → max end (r .high + 1) ≤ far → Swept (More P r) y (max end (r .high + 1)) next
-  swept-in h k f =
-      record {
-        ahead = s .ahead;
-        near = s .near;
-        small = f;
-        none = λ e z l m. absurd (omega arith);
-        longer = λ e. omega arith;
-        some = λ e z l m.
-            ⊎-elim (λ w. or-true-left (inRange z r) (s .some (omega arith) z l w)) (λ w. or-true-right (P z) (in-range r z (omega arith) (omega arith))) (split z end);
-      }
-
-swept-more : {P : ℕ → Bool} {y end next : ℕ} (r : Range) (e n : ℕ) → Swept P y end next → e ≡ endWith end (r .low) (r .high) y
-    → n ≡ nextWith next (r .low) y → (end ≤ far → e ≤ far) → Swept (More P r) y e n
-unfolding endWith nextWith
-swept-more {P} {y} {end} {next} r e n s f g h =
-    tested (ltb y (r .low))
-    (λ t.
-    let a : e ≡ end = f ∙ rw t in
-    let b : n ≡ min next (r .low) = g ∙ rw t in
-    rw (a, b) (swept-after r s (ltb-true y (r .low) t)))
-    (λ t.
-    let b : n ≡ next = g ∙ rw t in
-    tested (ltb (r .high) y)
-    (λ u.
-    let a : e ≡ end = f ∙ rw (t, u) in
-    rw (a, b) (swept-behind r s (ltb-true (r .high) y u)))
-    (λ u.
-    let a : e ≡ max end (r .high + 1) = f ∙ rw (t, u) in
-    let small : max end (r .high + 1) ≤ far = omega (arith, a, h (s .small)) in
-    rw (a, b) (swept-in r s (ltb-false y (r .low) t) (ltb-false (r .high) y u) small)))
-
 -- ---- the code's ways
 
-module _ (end a b y : ℕ) where
-  pub end-after : y < a → end ≡ endWith end a b y
-  unfolding endWith
-  end-after h = rw (lt-ltb y a h)
+module _ (a b y : ℕ) where
+  pub in-before : y < a → false ≡ inRange y (record { low = a; high = b })
+  in-before h = sym (before-range (record { low = a; high = b }) y h)
 
-  pub end-behind : a ≤ y → b < y → end ≡ endWith end a b y
-  unfolding endWith
-  end-behind h k = rw (le-ltb y a h, lt-ltb b y k)
-
-  pub end-in : a ≤ y → y ≤ b → max end (b + 1) ≡ endWith end a b y
-  unfolding endWith
-  end-in h k = rw (le-ltb y a h, le-ltb b y k)
+  pub in-behind : a ≤ y → leb y b ≡ inRange y (record { low = a; high = b })
+  in-behind h = sym (ap (λ (x : Bool). both x (leb y b)) (le-leb a y h))
 
 module _ (next a y : ℕ) where
   pub next-after : y < a → min next a ≡ nextWith next a y
@@ -138,74 +64,89 @@ module _ (next a y : ℕ) where
 
 -- ---- the loop over a stretch of ranges
 
+-- one of a stretch passes
+any-at : {A : Type 0} (p : A → Bool) (g : ℕ → A) (from n k : ℕ) → from ≤ k → k < from + n → p (g k) ≡ true → any p (stretch g from n) ≡ true
+unfolding stretch
+any-at p g from zero k l h e = absurd (omega arith)
+any-at p g from (suc n) k l h e =
+    elim (ℕ-discrete k from) [
+      | yes z ↦ or-true-left (any p (stretch g (suc from) n)) (subst (λ (x : ℕ). p (g x) ≡ true) z e)
+      | no z ↦ or-true-right (p (g from)) (any-at p g (suc from) n k (omega arith) (omega arith) e)
+    ]
+
 module _ (low high : List ℕ) (from to y : ℕ) where
   -- the test by the ranges before the place k
   abbrev pub Before : ℕ → ℕ → Bool
   Before k z = any (inRange z) (stretch (rangeAt low high) from (k - from))
 
-  pub record Sweep (end next k : ℕ) : Type 0 where
+  -- none of them holds a number from y on that is before `next`
+  pub record Sweep (next k : ℕ) : Type 0 where
     pub order : from ≤ k
     pub within : k - from ≤ to - from
-    pub swept : Swept (Before k) y end next
+    pub ahead : y < next
+    pub near : next ≤ far
+    pub none : (z : ℕ) → y ≤ z → z < next → Before k z ≡ false
 
-  pub sweep-start : y ≤ cap → Sweep 0 far from
+  pub sweep-start : y ≤ cap → Sweep far from
   unfolding stretch
   sweep-start h =
       record {
         order = omega arith;
         within = omega arith;
-        swept = record {
-          ahead = omega arith;
-          near = omega arith;
-          small = omega arith;
-          none = λ e z l k. none z;
-          longer = λ e. absurd (omega arith);
-          some = λ e z l k. absurd (omega arith);
-        };
+        ahead = omega arith;
+        near = omega arith;
+        none = λ z l k. let e : from - from ≡ 0 = omega arith in rw e;
       }
-    where
-      none : (z : ℕ) → Before from z ≡ false
-      none z = let e : from - from ≡ 0 = omega arith in rw e
 
-  pub sweep-more : (end next k e n : ℕ) → k < to → Sweep end next k → e ≡ endWith end (getD low k 0) (getD high k 0) y
-      → n ≡ nextWith next (getD low k 0) y → (end ≤ far → e ≤ far) → Sweep e n (k + 1)
-  sweep-more end next k e n h s f g small =
+  pub sweep-more : (next k n : ℕ) (b : Bool) → k < to → Sweep next k → b ≡ inRange y (rangeAt low high k) → b ≡ false → n ≡ nextWith next (getD low k 0) y → Sweep n (k + 1)
+  unfolding nextWith
+  sweep-more next k n b h s i f g =
       let order = s .order in
-      let a : k + 1 - from ≡ k - from + 1 = omega arith in
-      let b : from + (k - from) ≡ k = omega arith in
+      let e : k + 1 - from ≡ k - from + 1 = omega arith in
+      let d : from + (k - from) ≡ k = omega arith in
+      let low-at = getD low k 0 in
+      let high-at = getD high k 0 in
+      tested (ltb y low-at)
+      (λ t.
+      let m : n ≡ min next low-at = g ∙ rw t in
+      let u = ltb-true y low-at t in
       record {
         order = omega arith;
         within = omega arith;
-        swept = swept-same (λ z. sym (rw (a, stretch-snoc (rangeAt low high) from (k - from), b) (any-snoc (inRange z) (stretch (rangeAt low high) from (k - from)) (rangeAt low high k)))) (swept-more (rangeAt low high k) e n (s .swept) f g small);
-      }
-    where
-      swept-same : {P Q : ℕ → Bool} {y end next : ℕ} → ((z : ℕ) → P z ≡ Q z) → Swept P y end next → Swept Q y end next
-      swept-same i s =
-          record {
-            ahead = s .ahead;
-            near = s .near;
-            small = s .small;
-            none = λ e z l k. sym (i z) ∙ s .none e z l k;
-            longer = s .longer;
-            some = λ e z l k. sym (i z) ∙ s .some e z l k;
-          }
+        ahead = omega (arith, s .ahead);
+        near = omega (arith, s .near);
+        none = λ z l w. rw (e, stretch-snoc (rangeAt low high) from (k - from), d) (any-snoc (inRange z) (stretch (rangeAt low high) from (k - from)) (rangeAt low high k) ∙ or-false (s .none z l (omega arith)) (before-range (rangeAt low high k) z (omega arith)));
+      })
+      (λ t.
+      let m : n ≡ next = g ∙ rw t in
+      let u = ltb-false y low-at t in
+      let v = leb-false y high-at (in-behind low-at high-at y u ∙ sym i ∙ f) in
+      record {
+        order = omega arith;
+        within = omega arith;
+        ahead = omega (arith, s .ahead);
+        near = omega (arith, s .near);
+        none = λ z l w. rw (e, stretch-snoc (rangeAt low high) from (k - from), d) (any-snoc (inRange z) (stretch (rangeAt low high) from (k - from)) (rangeAt low high k) ∙ or-false (s .none z l (omega arith)) (behind-range (rangeAt low high k) z (omega arith)));
+      })
 
   -- the run, and that it is not beyond `far`
   abbrev pub All : ℕ → Bool
   All z = any (inRange z) (rangesIn low high from to)
 
-  whole : (end next k : ℕ) → to ≤ k → Sweep end next k → (z : ℕ) → Before k z ≡ All z
-  whole end next k h s z =
+  pub sweep-in : (next k stop : ℕ) (b : Bool) → k < to → Sweep next k → b ≡ inRange y (rangeAt low high k) → b ≡ true → stop ≡ getD high k 0 + 1 → Alike All y true stop
+  sweep-in next k stop b h s i t g =
+      let order = s .order in
+      let c = both-held (leb (getD low k 0) y) (leb y (getD high k 0)) (sym i ∙ t) in
+      let lo = leb-true (getD low k 0) y (c .0) in
+      let hi = leb-true y (getD high k 0) (c .1) in
+      record {
+        some = omega arith;
+        same = λ z l w. any-at (inRange z) (rangeAt low high) from (to - from) k order (omega arith) (in-range (rangeAt low high k) z (omega arith) (omega arith));
+      }
+
+  pub sweep-out : (next k : ℕ) → to ≤ k → Sweep next k → Alike All y false next
+  sweep-out next k h s =
       let order = s .order in
       let within = s .within in
       let e : k - from ≡ to - from = omega arith in
-      rw e
-
-  pub sweep-in : (end next k : ℕ) → to ≤ k → Sweep end next k → 0 < end → Alike All y true end × (end ≤ far)
-  sweep-in end next k h s e =
-      (alike-same (whole end next k h s) (record { some = s .swept .longer e; same = λ z l m. s .swept .some e z l m }), s .swept .small)
-
-  pub sweep-out : (end next k : ℕ) → to ≤ k → Sweep end next k → end ≤ 0 → Alike All y false next × (next ≤ far)
-  sweep-out end next k h s e =
-      let z : end ≡ 0 = omega arith in
-      (alike-same (whole end next k h s) (record { some = s .swept .ahead; same = λ k l m. s .swept .none z k l m }), s .swept .near)
+      alike-same (λ z. ap (λ (n : ℕ). any (inRange z) (stretch (rangeAt low high) from n)) e) (record { some = s .ahead; same = λ z l w. s .none z l w })

@@ -1,6 +1,6 @@
 -- The relations of a clause by place, and what is kept of each: how far it says the same.
 use mathlib.Core.Path.{_≡_}
-use mathlib.Core.Bool.{Bool, false}
+use mathlib.Core.Bool.{Bool, true, false}
 use mathlib.Core.List.{List}
 use Prim.Native.Nat.{ℕ, _+_, _-_, _≤_, _<_}
 use lib.Dec.{ltb}
@@ -31,3 +31,16 @@ Told T s q tiers = (k : ℕ) → k < sizeOf s → getD tiers k 0 ≡ tier q (rel
 -- At level j, each relation says `says` of every number from p on that is before its `stop`.
 abbrev pub Kept : Table → Span → Query → ℕ → ℕ → List Bool → List ℕ → Type 0
 Kept T s q j p says stop = (k : ℕ) → k < sizeOf s → (x : ℕ) → p ≤ x → x < getD stop k 0 → ownOne q j (relationAt T (placeOf s k)) x ≡ getD says k false
+
+-- the first n of `list` are the indices below k that are told to be of the level
+pub record Gathered (tiers : List ℕ) (level : ℕ) (list : List ℕ) (n k : ℕ) : Type 0 where
+  pub few : n ≤ k
+  pub each : (i : ℕ) → i < n → (getD list i 0 < k) × (getD tiers (getD list i 0) 0 ≡ level)
+  pub covers : (P : ℕ → Bool) → ((i : ℕ) → i < n → P (getD list i 0) ≡ true) → (m : ℕ) → m < k → getD tiers m 0 ≡ level → P m ≡ true
+
+-- those of `list` are relations of level j, and one of another place asks nothing there that they do not
+pub record Listed (T : Table) (s : Span) (q : Query) (j : ℕ) (list : List ℕ) (count : ℕ) : Type 0 where
+  pub level : j < 9
+  pub few : count ≤ 16
+  pub each : (i : ℕ) → i < count → (getD list i 0 < sizeOf s) × (j ≡ tier q (relationAt T (placeOf s (getD list i 0))))
+  pub covers : (x : ℕ) → ((i : ℕ) → i < count → ownOne q j (relationAt T (placeOf s (getD list i 0))) x ≡ true) → (k : ℕ) → k < sizeOf s → ownOne q j (relationAt T (placeOf s k)) x ≡ true

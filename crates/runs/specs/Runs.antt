@@ -16,10 +16,6 @@ use Rattle.runs.specs.declared.Run.{Run}
 abbrev pub far : ℕ
 far = 4_000_000_000_000_000_000
 
--- past the ranges so far that hold y, and the range a..b; 0 where none does
-unfoldable pub endWith : ℕ → ℕ → ℕ → ℕ → ℕ
-endWith end a b y = if ltb y a then end else if ltb b y then end else max end (b + 1)
-
 -- the least start above y of those so far, and of a range from a on
 unfoldable pub nextWith : ℕ → ℕ → ℕ → ℕ
 nextWith next a y = if ltb y a then min next a else next
@@ -27,13 +23,6 @@ nextWith next a y = if ltb y a then min next a else next
 -- the first number that s takes to y or further
 unfoldable pub upwards : ℕ → ℕ → ℕ
 upwards y s = if eqb s 1 then y else (y + (s - 1)) / s
-
--- of two runs that begin at one number, the run of both tests together
-unfoldable pub joinedRun : Run → Run → Run
-joinedRun a b =
-    if a .says then (if b .says then record { says = true; stop = min (a .stop) (b .stop) } else b) else
-    if b .says then a else
-    record { says = false; stop = max (a .stop) (b .stop) }
 
 -- the level of a relation that is asked is marked
 abbrev pub Noted : Query → Relation → List Bool → Type 0

@@ -11,8 +11,8 @@ ghost use Rattle.clash_laws.specs.Fast.{ends, passesAll};
 ghost use Rattle.clash_laws.specs.Levels.{ownOne, lastDigit, own};
 ghost use Rattle.clash_laws.specs.Read.{joinedIn};
 ghost use Rattle.clash_laws.specs.Ready.{Fit, Room};
-ghost use Rattle.runs.specs.Kept.{sizeOf, placeOf, Told, Kept};
-ghost use Rattle.runs.specs.Runs.{far, joinedRun};
+ghost use Rattle.runs.specs.Kept.{sizeOf, placeOf, tier, Kept, Listed};
+ghost use Rattle.runs.specs.Runs.{far};
 use crate::FAR;
 use crate::Run;
 use crate::range;
@@ -52,6 +52,7 @@ pub fn place_of(s: Span, k: usize) -> usize
 fn digit_run(q: Query, level: usize, p: u64) -> Run
     requires { ⌜ Room q p ⌝ }
     ensures { λ r. ⌜ Alike (lastDigit q level) p (r .says) (r .stop) ⌝ }
+    ensures { λ r. ⌜ (r .stop ≤ far) × (r .says ≡ true → r .stop ≡ far) ⌝ }
 {
     if q.odd {
         if level == 1 {
@@ -66,28 +67,6 @@ fn digit_run(q: Query, level: usize, p: u64) -> Run
     Run {
         says: true,
         stop: FAR,
-    }
-}
-
-// Of two runs that begin at one number, the run of both tests together.
-fn join(a: Run, b: Run) -> Run
-    ensures { λ r. ⌜ r ≡ joinedRun a b ⌝ }
-{
-    if a.says {
-        if b.says {
-            return Run {
-                says: true,
-                stop: range::lesser(a.stop, b.stop),
-            };
-        }
-        return b;
-    }
-    if b.says {
-        return a;
-    }
-    Run {
-        says: false,
-        stop: range::greater(a.stop, b.stop),
     }
 }
 
@@ -112,7 +91,7 @@ fn run_at<'a>(
 ) -> Run
     requires { ⌜ Fit q ⌝ }
     requires { ⌜ Room q p ⌝ }
-    requires { ⌜ (s .to ≤ 320) × (s .stop ≤ 320) × (k < sizeOf s) × (k < 16) ⌝ }
+    requires { ⌜ (s .to ≤ 320) × (s .stop ≤ 320) × (k < sizeOf s) × (k < 16) × (level < 9) × (level ≡ tier q (relationAt (table (now operand) (now modulus) (now negated) (now ranges) (now low) (now high)) (placeOf s k))) ⌝ }
     requires { ⌜ Kept (table (now operand) (now modulus) (now negated) (now ranges) (now low) (now high)) s q level p (now says) (now stop) ⌝ }
     ensures { λ r. ⌜ Alike (ownOne q level (relationAt (table (now (operand .entry)) (now (modulus .entry)) (now (negated .entry)) (now (ranges .entry)) (now (low .entry)) (now (high .entry))) (placeOf s k))) p (r .says) (r .stop) ⌝ }
     ensures { λ _. ⌜ Kept (table (now (operand .entry)) (now (modulus .entry)) (now (negated .entry)) (now (ranges .entry)) (now (low .entry)) (now (high .entry))) s q level p (now (says .exit)) (now (stop .exit)) ⌝ }
@@ -142,54 +121,8 @@ fn run_at<'a>(
     r
 }
 
-// The run of the relation k at the level. One of another level asks nothing there.
-fn run_there<'a>(
-    operand: &'a [u8; 320],
-    modulus: &'a [u32; 320],
-    negated: &'a [bool; 320],
-    ranges: &'a [usize; 320],
-    low: &'a [u32; 2048],
-    high: &'a [u32; 2048],
-    s: Span,
-    q: Query,
-    tiers: &[usize; 16],
-    level: usize,
-    p: u64,
-    k: usize,
-    says: &mut [bool; 16],
-    stop: &mut [u64; 16],
-) -> Run
-    requires { ⌜ Fit q ⌝ }
-    requires { ⌜ Room q p ⌝ }
-    requires { ⌜ (s .to ≤ 320) × (s .stop ≤ 320) × (k < sizeOf s) × (k < 16) × Told (table (now operand) (now modulus) (now negated) (now ranges) (now low) (now high)) s q (now tiers) ⌝ }
-    requires { ⌜ Kept (table (now operand) (now modulus) (now negated) (now ranges) (now low) (now high)) s q level p (now says) (now stop) ⌝ }
-    ensures { λ r. ⌜ Alike (ownOne q level (relationAt (table (now (operand .entry)) (now (modulus .entry)) (now (negated .entry)) (now (ranges .entry)) (now (low .entry)) (now (high .entry))) (placeOf s k))) p (r .says) (r .stop) ⌝ }
-    ensures { λ _. ⌜ Kept (table (now (operand .entry)) (now (modulus .entry)) (now (negated .entry)) (now (ranges .entry)) (now (low .entry)) (now (high .entry))) s q level p (now (says .exit)) (now (stop .exit)) ⌝ }
-{
-    if tiers[k] != level {
-        return Run {
-            says: true,
-            stop: FAR,
-        };
-    }
-    run_at(
-        operand,
-        modulus,
-        negated,
-        ranges,
-        low,
-        high,
-        s,
-        q,
-        level,
-        p,
-        k,
-        says,
-        stop,
-    )
-}
-
-// What the clause asks of p at a level, and up to where it says the same.
+// What the clause asks of p at a level, and up to where it says the same. `list` has the relations of the
+// level; the first that says no ends it.
 pub fn clause_run<'a>(
     operand: &'a [u8; 320],
     modulus: &'a [u32; 320],
@@ -199,7 +132,8 @@ pub fn clause_run<'a>(
     high: &'a [u32; 2048],
     s: Span,
     q: Query,
-    tiers: &[usize; 16],
+    list: &[usize; 16],
+    count: usize,
     level: usize,
     p: u64,
     says: &mut [bool; 16],
@@ -207,17 +141,20 @@ pub fn clause_run<'a>(
 ) -> Run
     requires { ⌜ Fit q ⌝ }
     requires { ⌜ Room q p ⌝ }
-    requires { ⌜ (s .to ≤ 320) × (s .stop ≤ 320) × (sizeOf s ≤ 16) × Told (table (now operand) (now modulus) (now negated) (now ranges) (now low) (now high)) s q (now tiers) ⌝ }
+    requires { ⌜ (s .to ≤ 320) × (s .stop ≤ 320) × (sizeOf s ≤ 16) × Listed (table (now operand) (now modulus) (now negated) (now ranges) (now low) (now high)) s q level (now list) count ⌝ }
     requires { ⌜ Kept (table (now operand) (now modulus) (now negated) (now ranges) (now low) (now high)) s q level p (now says) (now stop) ⌝ }
     ensures { λ r. ⌜ Alike (own q (joinedIn (table (now (operand .entry)) (now (modulus .entry)) (now (negated .entry)) (now (ranges .entry)) (now (low .entry)) (now (high .entry))) s) level) p (r .says) (r .stop) ⌝ }
     ensures { λ r. ⌜ r .stop ≤ far ⌝ }
     ensures { λ _. ⌜ Kept (table (now (operand .entry)) (now (modulus .entry)) (now (negated .entry)) (now (ranges .entry)) (now (low .entry)) (now (high .entry))) s q level p (now (says .exit)) (now (stop .exit)) ⌝ }
 {
-    let size = size_of(s);
-    let mut run = digit_run(q, level, p);
-    let mut k = 0;
-    while k < size {
-        let r = run_there(
+    let digit = digit_run(q, level, p);
+    if !digit.says {
+        return digit;
+    }
+    let mut end = FAR;
+    let mut i = 0;
+    while i < count {
+        let r = run_at(
             operand,
             modulus,
             negated,
@@ -226,19 +163,24 @@ pub fn clause_run<'a>(
             high,
             s,
             q,
-            tiers,
             level,
             p,
-            k,
+            list[i],
             says,
             stop,
         );
-        run = join(run, r);
-        k += 1;
+        if !r.says {
+            return Run {
+                says: false,
+                stop: range::lesser(r.stop, FAR),
+            };
+        }
+        end = range::lesser(end, r.stop);
+        i += 1;
     }
     Run {
-        says: run.says,
-        stop: range::lesser(run.stop, FAR),
+        says: true,
+        stop: end,
     }
 }
 

@@ -1,13 +1,14 @@
-// The levels that a clause asks are marked.
+// The levels that a clause asks are marked, and the relations of one level listed.
 ghost use mathlib.Core.Path.{_≡_};
 ghost use mathlib.Core.Bool.{true, false};
 ghost use Prim.Native.Nat.{ℕ, _≤_, _<_};
 ghost use lib.ListN.{length, getD};
+ghost use Rattle.decimal.specs.Choice.{if_then_else_};
 ghost use Rattle.rules.specs.Stretch.{table, relationAt};
 ghost use Rattle.clash_laws.specs.Levels.{own, levelled};
 ghost use Rattle.clash_laws.specs.Read.{joinedIn};
 ghost use Rattle.clash_laws.specs.Ready.{Fit};
-ghost use Rattle.runs.specs.Kept.{sizeOf, tier, Told};
+ghost use Rattle.runs.specs.Kept.{sizeOf, tier, Told, Gathered};
 ghost use Rattle.runs.specs.Runs.{Noted, Grown};
 use crate::clause;
 use crate::range;
@@ -94,4 +95,25 @@ pub fn mark_levels<'a>(
         tiers[k] = mark_of(operand, modulus, negated, ranges, low, high, q, j, asked);
         k += 1;
     }
+}
+
+fn one_if(b: bool) -> usize
+    ensures { λ r. ⌜ (r ≡ (if b then 1 else 0)) × (r ≤ 1) ⌝ }
+{
+    if b { 1 } else { 0 }
+}
+
+// Stores the indices below `size` whose level it is at the front of `list`, and tells how many there are.
+pub fn list_level(tiers: &[usize; 16], size: usize, level: usize, list: &mut [usize; 16]) -> usize
+    requires { ⌜ (size ≤ 16) × (length (now list) ≡ 16) ⌝ }
+    ensures { λ r. ⌜ Gathered (now (tiers .entry)) level (now (list .exit)) r size ⌝ }
+{
+    let mut n = 0;
+    let mut k = 0;
+    while k < size {
+        list[n] = k;
+        n += one_if(tiers[k] == level);
+        k += 1;
+    }
+    n
 }

@@ -11,8 +11,8 @@ ghost use Rattle.clash_laws.specs.Fast.{listed, test, factor, passes};
 ghost use Rattle.clash_laws.specs.Levels.{levelOf, ownOne};
 ghost use Rattle.clash_laws.specs.Read.{cap};
 ghost use Rattle.clash_laws.specs.Ready.{Fit, Room};
+ghost use Rattle.runs.specs.Kept.{tier};
 ghost use Rattle.runs.specs.Runs.{far, upwards};
-use crate::FAR;
 use crate::Run;
 use crate::range;
 use clash_laws::Query;
@@ -118,6 +118,17 @@ pub fn factor_of(q: Query, o: u8) -> u64
     0
 }
 
+// The same of an operand that is asked: 1, but for f.
+fn asked_factor(q: Query, o: u8) -> u64
+    requires { ⌜ Fit q × (factor q o ≡ 0 → ⊥) ⌝ }
+    ensures { λ r. ⌜ r ≡ factor q o ⌝ }
+{
+    if o == 102 {
+        return q.f;
+    }
+    1
+}
+
 // The level of a relation of x * s with the modulus w.
 pub fn level_of(s: u64, w: u64) -> usize
     requires { ⌜ s ≤ 1_000_000_000 ⌝ }
@@ -165,7 +176,7 @@ fn upwards_by(y: u64, s: u64) -> u64
     (y + (s - 1)) / s
 }
 
-// What the relation j asks of p at a level. Where it is not asked there, nothing ends the run.
+// What the relation j, which is asked, asks of p at its level.
 pub fn own_run<'a>(
     operand: &'a [u8; 320],
     modulus: &'a [u32; 320],
@@ -180,24 +191,11 @@ pub fn own_run<'a>(
 ) -> Run
     requires { ⌜ Fit q ⌝ }
     requires { ⌜ Room q p ⌝ }
-    requires { ⌜ j < 320 ⌝ }
+    requires { ⌜ (j < 320) × (level < 9) × (level ≡ tier q (relationAt (table (now operand) (now modulus) (now negated) (now ranges) (now low) (now high)) j)) ⌝ }
     ensures { λ r. ⌜ Alike (ownOne q level (relationAt (table (now (operand .entry)) (now (modulus .entry)) (now (negated .entry)) (now (ranges .entry)) (now (low .entry)) (now (high .entry))) j)) p (r .says) (r .stop) ⌝ }
     ensures { λ r. ⌜ r .stop ≤ far ⌝ }
 {
-    let s = factor_of(q, operand[j]);
-    if s == 0 {
-        return Run {
-            says: true,
-            stop: FAR,
-        };
-    }
-    let l = level_of(s, range::wide(modulus[j]));
-    if l != level {
-        return Run {
-            says: true,
-            stop: FAR,
-        };
-    }
+    let s = asked_factor(q, operand[j]);
     let r = listed_run(operand, modulus, negated, ranges, low, high, j, p * s);
     Run {
         says: r.says,

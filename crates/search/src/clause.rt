@@ -1,23 +1,25 @@
 // The least admitted number of a clause whose v is within bounds.
 ghost use mathlib.Core.Path.{_≡_};
-ghost use mathlib.Core.Bool.{Bool};
+ghost use mathlib.Core.Bool.{Bool, true, false};
 ghost use mathlib.Core.List.{List};
-ghost use Prim.Native.Nat.{ℕ, _+_, _*_, _≤_};
-ghost use lib.Dec.{ltb};
+ghost use Prim.Native.Nat.{ℕ, _^_, _≤_, _<_};
 ghost use Rattle.decimal.specs.Choice.{if_then_else_};
 ghost use Rattle.number.specs.Limits.{maxExponent};
+ghost use Rattle.rules.specs.Syntax.{Relation};
 ghost use Rattle.clash_laws.specs.Bounded.{bounded};
-ghost use Rattle.clash_laws.specs.Check.{lowest, block, ranks};
-ghost use Rattle.clash_laws.specs.Fast.{queryI, integerOf, kindRank, clauseRank};
+ghost use Rattle.clash_laws.specs.Check.{lowest};
+ghost use Rattle.clash_laws.specs.Fast.{queryI, exponentOf, fractions, fractionCode, integerOf, kindRank, clauseRank};
 ghost use Rattle.clash_laws.specs.Floors.{NoneBelow, Under};
+ghost use Rattle.clash_laws.specs.Profile.{profileOf};
 ghost use Rattle.rules.specs.Stretch.{table};
 ghost use Rattle.clash_laws.specs.Read.{joinedIn};
-ghost use Rattle.clash_laws.specs.Spots.{spotRank, Proper};
+ghost use Rattle.clash_laws.specs.Spots.{kindSpot, spotRank, Proper};
 use crate::floor;
 use crate::fraction;
 use crate::limits;
+use crate::limits::power;
 use crate::order;
-use crate::settle;
+use crate::places;
 use answer::Witness;
 use clash_laws::Bounds;
 use clash_laws::Floors;
@@ -34,7 +36,7 @@ fn lowest_of(e: u64) -> u64
     if e == 0 {
         return 0;
     }
-    fraction::power(e)
+    power(e)
 }
 
 fn one_if(b: bool) -> u64
@@ -83,119 +85,11 @@ pub fn integer_of<'a>(
     )
 }
 
-// The floor of i where f is 0, or where it is not.
-fn floor_of(l: Floors, whole: bool) -> u64
-    ensures { λ r. ⌜ r ≡ (if whole then l .whole else l .part) ⌝ }
+// The number with e, with v and f as one number q, and with i; none where i is past the largest.
+fn spot_of(e: u64, q: u64, i: u64) -> Witness
+    requires { ⌜ (e ≤ maxExponent) × (q < fractions) ⌝ }
+    ensures { λ r. ⌜ ((w : Bool) (c : List Relation) → q ≡ fractionCode w c → i ≡ integerOf w e c → spotRank r ≡ kindSpot w e c) × Proper r ⌝ }
 {
-    if whole { l.whole } else { l.part }
-}
-
-// Floors that say more: where no relation asks n, the least i where f is 0 is a floor of every i.
-fn shared<'a>(
-    operand: &'a [u8; 320],
-    modulus: &'a [u32; 320],
-    negated: &'a [bool; 320],
-    ranges: &'a [usize; 320],
-    low: &'a [u32; 2048],
-    high: &'a [u32; 2048],
-    s: Span,
-    l: Floors,
-) -> Floors
-    requires { ⌜ (s .to ≤ 320) × (s .stop ≤ 320) × Under (joinedIn (table (now operand) (now modulus) (now negated) (now ranges) (now low) (now high)) s) l ⌝ }
-    ensures { λ r. ⌜ Under (joinedIn (table (now (operand .entry)) (now (modulus .entry)) (now (negated .entry)) (now (ranges .entry)) (now (low .entry)) (now (high .entry))) s) r ⌝ }
-{
-    if settle::asks(operand, modulus, negated, ranges, low, high, s, 110) {
-        return l;
-    }
-    let i = integer_of(
-        operand,
-        modulus,
-        negated,
-        ranges,
-        low,
-        high,
-        s,
-        true,
-        0,
-        l.whole,
-    );
-    Floors {
-        whole: i,
-        part: i,
-        tail: l.tail,
-    }
-}
-
-// The floors at e: an exponent above 0 has a search of its own.
-fn floors_at<'a>(
-    operand: &'a [u8; 320],
-    modulus: &'a [u32; 320],
-    negated: &'a [bool; 320],
-    ranges: &'a [usize; 320],
-    low: &'a [u32; 2048],
-    high: &'a [u32; 2048],
-    s: Span,
-    l: Floors,
-    e: u64,
-) -> Floors
-    requires { ⌜ (s .to ≤ 320) × (s .stop ≤ 320) × Under (joinedIn (table (now operand) (now modulus) (now negated) (now ranges) (now low) (now high)) s) l ⌝ }
-    ensures { λ r. ⌜ Under (joinedIn (table (now (operand .entry)) (now (modulus .entry)) (now (negated .entry)) (now (ranges .entry)) (now (low .entry)) (now (high .entry))) s) r ⌝ }
-{
-    if e == 0 {
-        return shared(operand, modulus, negated, ranges, low, high, s, l);
-    }
-    l
-}
-
-// The least number at e whose f is 0, or whose f is not. There is no search for f where there is no i,
-// and none for i where there is no f.
-fn kind_spot<'a>(
-    operand: &'a [u8; 320],
-    modulus: &'a [u32; 320],
-    negated: &'a [bool; 320],
-    ranges: &'a [usize; 320],
-    low: &'a [u32; 2048],
-    high: &'a [u32; 2048],
-    s: Span,
-    b: Bounds,
-    l: Floors,
-    whole: bool,
-    e: u64,
-) -> Witness
-    requires { ⌜ (e ≤ maxExponent) × (s .to ≤ 320) × (s .stop ≤ 320) × Under (joinedIn (table (now operand) (now modulus) (now negated) (now ranges) (now low) (now high)) s) l ⌝ }
-    ensures { λ r. ⌜ (spotRank r ≡ (if ltb (kindRank whole e (bounded b (joinedIn (table (now (operand .entry)) (now (modulus .entry)) (now (negated .entry)) (now (ranges .entry)) (now (low .entry)) (now (high .entry))) s))) block then e * block + kindRank whole e (bounded b (joinedIn (table (now (operand .entry)) (now (modulus .entry)) (now (negated .entry)) (now (ranges .entry)) (now (low .entry)) (now (high .entry))) s)) else ranks)) × Proper r ⌝ }
-{
-    let floor = floor_of(l, whole);
-    if limits::INTEGER_LIMIT <= floor {
-        return order::nowhere();
-    }
-    let q = fraction::fraction_code(
-        operand,
-        modulus,
-        negated,
-        ranges,
-        low,
-        high,
-        s,
-        b,
-        l.tail,
-        whole,
-    );
-    if limits::FRACTIONS <= q {
-        return order::nowhere();
-    }
-    let i = integer_of(
-        operand,
-        modulus,
-        negated,
-        ranges,
-        low,
-        high,
-        s,
-        whole,
-        e,
-        floor,
-    );
     if limits::INTEGER_LIMIT <= i {
         return order::nowhere();
     }
@@ -207,7 +101,122 @@ fn kind_spot<'a>(
     }
 }
 
-// The least number of the clause whose v is within the bounds.
+// The least number at e whose f is not 0. There is no search where the floor leaves no t, and none for f
+// where there is no i.
+fn part_spot<'a>(
+    operand: &'a [u8; 320],
+    modulus: &'a [u32; 320],
+    negated: &'a [bool; 320],
+    ranges: &'a [usize; 320],
+    low: &'a [u32; 2048],
+    high: &'a [u32; 2048],
+    s: Span,
+    b: Bounds,
+    p: u64,
+    l: Floors,
+    e: u64,
+) -> Witness
+    requires { ⌜ (e ≤ maxExponent) × (s .to ≤ 320) × (s .stop ≤ 320) × Under (joinedIn (table (now operand) (now modulus) (now negated) (now ranges) (now low) (now high)) s) l ⌝ }
+    requires { ⌜ p ≡ profileOf (bounded b (joinedIn (table (now operand) (now modulus) (now negated) (now ranges) (now low) (now high)) s)) ⌝ }
+    ensures { λ r. ⌜ (spotRank r ≡ kindSpot false e (bounded b (joinedIn (table (now (operand .entry)) (now (modulus .entry)) (now (negated .entry)) (now (ranges .entry)) (now (low .entry)) (now (high .entry))) s))) × Proper r ⌝ }
+{
+    if !places::opens(profile::v_of(p), profile::w_of(p)) {
+        return order::nowhere();
+    }
+    if limits::FRACTION_LIMIT <= l.tail {
+        return order::nowhere();
+    }
+    let i = integer_of(
+        operand,
+        modulus,
+        negated,
+        ranges,
+        low,
+        high,
+        s,
+        false,
+        e,
+        l.part,
+    );
+    if limits::INTEGER_LIMIT <= i {
+        return order::nowhere();
+    }
+    let q = fraction::part_code(
+        operand,
+        modulus,
+        negated,
+        ranges,
+        low,
+        high,
+        s,
+        b,
+        p,
+        l.tail,
+    );
+    if limits::FRACTIONS <= q {
+        return order::nowhere();
+    }
+    spot_of(e, q, i)
+}
+
+// Whether the number whose f is 0 comes before each whose f is not, by its v and f as q and its i: where
+// n is not asked, i is the same for both; where it has no places, it has fewer.
+fn comes_first(p: u64, q: u64, i: u64) -> bool
+    requires { ⌜ q < fractions ⌝ }
+    ensures { λ r. ⌜ (r ≡ true → (c : List Relation) (e : ℕ) → p ≡ profileOf c → e ≤ maxExponent → q ≡ fractionCode true c → i ≡ integerOf true e c → kindRank true e c ≤ kindRank false e c) ⌝ }
+{
+    if profile::spares_n(p) {
+        return true;
+    }
+    if q == 0 {
+        return i < limits::INTEGER_LIMIT;
+    }
+    false
+}
+
+// The least number at e.
+fn spot_at<'a>(
+    operand: &'a [u8; 320],
+    modulus: &'a [u32; 320],
+    negated: &'a [bool; 320],
+    ranges: &'a [usize; 320],
+    low: &'a [u32; 2048],
+    high: &'a [u32; 2048],
+    s: Span,
+    b: Bounds,
+    p: u64,
+    l: Floors,
+    e: u64,
+) -> Witness
+    requires { ⌜ (e ≤ maxExponent) × (s .to ≤ 320) × (s .stop ≤ 320) × Under (joinedIn (table (now operand) (now modulus) (now negated) (now ranges) (now low) (now high)) s) l ⌝ }
+    requires { ⌜ (p ≡ profileOf (bounded b (joinedIn (table (now operand) (now modulus) (now negated) (now ranges) (now low) (now high)) s))) × (e ≡ exponentOf (bounded b (joinedIn (table (now operand) (now modulus) (now negated) (now ranges) (now low) (now high)) s))) ⌝ }
+    ensures { λ r. ⌜ (spotRank r ≡ clauseRank (bounded b (joinedIn (table (now (operand .entry)) (now (modulus .entry)) (now (negated .entry)) (now (ranges .entry)) (now (low .entry)) (now (high .entry))) s))) × Proper r ⌝ }
+{
+    let q = places::whole_code(p);
+    if limits::FRACTIONS <= q {
+        return part_spot(operand, modulus, negated, ranges, low, high, s, b, p, l, e);
+    }
+    let i = integer_of(
+        operand,
+        modulus,
+        negated,
+        ranges,
+        low,
+        high,
+        s,
+        true,
+        e,
+        l.whole,
+    );
+    let x = spot_of(e, q, i);
+    if comes_first(p, q, i) {
+        return x;
+    }
+    let y = part_spot(operand, modulus, negated, ranges, low, high, s, b, p, l, e);
+    order::earlier(x, y)
+}
+
+// The least number of the clause whose v is within the bounds; p is the profile of both.
 pub fn clause_spot<'a>(
     operand: &'a [u8; 320],
     modulus: &'a [u32; 320],
@@ -217,41 +226,16 @@ pub fn clause_spot<'a>(
     high: &'a [u32; 2048],
     s: Span,
     b: Bounds,
+    p: u64,
     l: Floors,
 ) -> Witness
     requires { ⌜ (s .to ≤ 320) × (s .stop ≤ 320) × Under (joinedIn (table (now operand) (now modulus) (now negated) (now ranges) (now low) (now high)) s) l ⌝ }
+    requires { ⌜ p ≡ profileOf (bounded b (joinedIn (table (now operand) (now modulus) (now negated) (now ranges) (now low) (now high)) s)) ⌝ }
     ensures { λ r. ⌜ (spotRank r ≡ clauseRank (bounded b (joinedIn (table (now (operand .entry)) (now (modulus .entry)) (now (negated .entry)) (now (ranges .entry)) (now (low .entry)) (now (high .entry))) s))) × Proper r ⌝ }
 {
-    let e = fraction::exponent_of(operand, modulus, negated, ranges, low, high, s);
+    let e = profile::exponent_of(p);
     if limits::MAX_EXPONENT < e {
         return order::nowhere();
     }
-    let m = floors_at(operand, modulus, negated, ranges, low, high, s, l, e);
-    let x = kind_spot(
-        operand,
-        modulus,
-        negated,
-        ranges,
-        low,
-        high,
-        s,
-        b,
-        m,
-        true,
-        e,
-    );
-    let y = kind_spot(
-        operand,
-        modulus,
-        negated,
-        ranges,
-        low,
-        high,
-        s,
-        b,
-        m,
-        false,
-        e,
-    );
-    order::earlier(x, y)
+    spot_at(operand, modulus, negated, ranges, low, high, s, b, p, l, e)
 }

@@ -8,7 +8,7 @@ mod floor;
 mod fraction;
 pub mod limits;
 pub mod order;
-mod settle;
+mod places;
 
 ghost use mathlib.Core.Path.{_≡_};
 ghost use mathlib.Core.Bool.{true, false};
@@ -22,6 +22,7 @@ ghost use Rattle.clash_laws.specs.Bounded.{withinPlaces};
 ghost use Rattle.clash_laws.specs.Check.{leastRank};
 ghost use Rattle.clash_laws.specs.Fast.{queryI, alone, search};
 ghost use Rattle.clash_laws.specs.Floors.{Under};
+ghost use Rattle.clash_laws.specs.Profile.{profileOf};
 ghost use Rattle.clash_laws.specs.Read.{joinedIn};
 ghost use Rattle.clash_laws.specs.Spots.{spotRank, Proper};
 use answer::Witness;
@@ -30,7 +31,8 @@ use clash_laws::Floors;
 use clash_laws::Span;
 
 // The least admitted number that meets the relations of both stretches and whose v is within the
-// bounds; order::nowhere() where there is none. The floors spare the search what lies below them.
+// bounds; order::nowhere() where there is none. p is the relations' profile; the floors spare the search
+// what lies below them.
 pub fn least_admitted<'a>(
     operand: &'a [u8; 320],
     modulus: &'a [u32; 320],
@@ -40,12 +42,24 @@ pub fn least_admitted<'a>(
     high: &'a [u32; 2048],
     s: Span,
     b: Bounds,
+    p: u64,
     l: Floors,
 ) -> Witness
-    requires { ⌜ (s .to ≤ 320) × (s .stop ≤ 320) × Under (joinedIn (table (now operand) (now modulus) (now negated) (now ranges) (now low) (now high)) s) l ⌝ }
+    requires { ⌜ (s .to ≤ 320) × (s .stop ≤ 320) × (p ≡ profileOf (joinedIn (table (now operand) (now modulus) (now negated) (now ranges) (now low) (now high)) s)) × Under (joinedIn (table (now operand) (now modulus) (now negated) (now ranges) (now low) (now high)) s) l ⌝ }
     ensures { λ r. ⌜ (spotRank r ≡ leastRank (λ (x : Number). both (withinPlaces b x) (clauseHolds (joinedIn (table (now (operand .entry)) (now (modulus .entry)) (now (negated .entry)) (now (ranges .entry)) (now (low .entry)) (now (high .entry))) s) x))) × Proper r ⌝ }
 {
-    clause::clause_spot(operand, modulus, negated, ranges, low, high, s, b, l)
+    clause::clause_spot(
+        operand,
+        modulus,
+        negated,
+        ranges,
+        low,
+        high,
+        s,
+        b,
+        profile::within(p, b),
+        l,
+    )
 }
 
 // The least i where f is 0, the least i where it is not, and the least t, of the relations of both

@@ -1,14 +1,14 @@
 // The limits of admitted numbers (crate number, specs/Limits.antt), and the counts that follow from
 // them, each once.
+ghost use mathlib.Core.Path.{_≡_};
+ghost use Prim.Native.Nat.{_^_, _≤_};
+
 pub const MAX_EXPONENT: u64 = 14;
 
 // past the largest: no number was found
 pub const NO_EXPONENT: u8 = 15;
 
 pub const MAX_PLACES: u64 = 9;
-
-// the same, as a place in an array
-pub const LAST_PLACE: usize = 9;
 
 // 10^15: i is below it
 pub const INTEGER_LIMIT: u64 = 1_000_000_000_000_000;
@@ -17,3 +17,34 @@ pub const INTEGER_LIMIT: u64 = 1_000_000_000_000_000;
 pub const FRACTION_LIMIT: u64 = 1_000_000_000;
 
 pub const FRACTIONS: u64 = 10_000_000_000;
+
+// The powers of ten from 10^0 on.
+const TENS: [u64; 19] = [
+    1,
+    10,
+    100,
+    1000,
+    10_000,
+    100_000,
+    1_000_000,
+    10_000_000,
+    100_000_000,
+    1_000_000_000,
+    10_000_000_000,
+    100_000_000_000,
+    1_000_000_000_000,
+    10_000_000_000_000,
+    100_000_000_000_000,
+    1_000_000_000_000_000,
+    10_000_000_000_000_000,
+    100_000_000_000_000_000,
+    1_000_000_000_000_000_000,
+];
+
+// 10^k.
+pub fn power(k: u64) -> u64
+    requires { ⌜ k ≤ 18 ⌝ }
+    ensures { λ r. ⌜ r ≡ 10 ^ k ⌝ }
+{
+    TENS[k as usize]
+}

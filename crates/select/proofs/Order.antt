@@ -23,33 +23,33 @@ use Rattle.grammar.specs.Reader.{PackAnswer, readPack}
 use Rattle.grammar.specs.Reader.PackAnswer.{Rules, Refused as PackRefused}
 use Rattle.bare.specs.Bare.{isBare, bareRule}
 use Rattle.bare.proofs.Bares.{bare-read}
-use Rattle.pack.specs.Answer.{verdictOf, rulesOf}
-use Rattle.pack.specs.declared.Verdict.{Verdict}
-use Rattle.pack.specs.declared.Verdict.the-variants.{Good, Refused as Bad}
+use Rattle.pack.specs.Answer.{readOf, rulesOf}
+use Rattle.pack.specs.declared.Read.{Read}
+use Rattle.pack.specs.declared.Read.the-variants.{Rules as Counted, Refused as Bad}
 use Rattle.plural.specs.Select.{selection}
 use Rattle.plural.specs.declared.Selection.{Selection}
 use Rattle.plural.specs.declared.Selection.the-variants.{Word, Refused}
 use Rattle.select.specs.Select.{selectNumber, selectRules, selectOf}
 
--- the verdict and the rules that the reader of packs returns decide as its answer does
-good : (a : PackAnswer) (v : Verdict) (rules : List Rule) (x : Reading) → v ≡ verdictOf a → v ≡ Good → rules ≡ rulesOf a → selectNumber rules x ≡ selectRules a x
-good (Rules rs) v rules x e g r = ap (λ (l : List Rule). selectNumber l x) r
-good (PackRefused f) v rules x e g r = never (cc)
+-- what the reader of packs returns, and the rules that it leaves, decide as its answer does
+good : (a : PackAnswer) (v : Read) (n : ℕ) (rules : List Rule) (x : Reading) → v ≡ readOf a → v ≡ Counted n → rules ≡ rulesOf a → selectNumber rules x ≡ selectRules a x
+good (Rules rs) v n rules x e g r = ap (λ (l : List Rule). selectNumber l x) r
+good (PackRefused f) v n rules x e g r = never (cc)
 
-pub bad : (a : PackAnswer) (v : Verdict) (f : Refusal) (x : Reading) → v ≡ verdictOf a → v ≡ Bad f → Refused f ≡ selectRules a x
+pub bad : (a : PackAnswer) (v : Read) (f : Refusal) (x : Reading) → v ≡ readOf a → v ≡ Bad f → Refused f ≡ selectRules a x
 bad (Rules rs) v f x e b = never (cc)
 bad (PackRefused g) v f x e b =
     let same : f ≡ g = cc in
     ap Refused same
 
 -- where the pack is read: the number's word, or its refusal
-pub word : (a : PackAnswer) (v : Verdict) (rules : List Rule) (x : Number) (r : Reading) → v ≡ verdictOf a → v ≡ Good → rules ≡ rulesOf a → r ≡ Is x
+pub word : (a : PackAnswer) (v : Read) (n : ℕ) (rules : List Rule) (x : Number) (r : Reading) → v ≡ readOf a → v ≡ Counted n → rules ≡ rulesOf a → r ≡ Is x
     → selection rules x ≡ selectRules a r
-word a v rules x r e g h k = ap (selectNumber rules) (sym k) ∙ good a v rules r e g h
+word a v n rules x r e g h k = ap (selectNumber rules) (sym k) ∙ good a v n rules r e g h
 
-pub unread : (a : PackAnswer) (v : Verdict) (rules : List Rule) (f : Refusal) (r : Reading) → v ≡ verdictOf a → v ≡ Good → rules ≡ rulesOf a
+pub unread : (a : PackAnswer) (v : Read) (n : ℕ) (rules : List Rule) (f : Refusal) (r : Reading) → v ≡ readOf a → v ≡ Counted n → rules ≡ rulesOf a
     → r ≡ NumberRefused f → Refused f ≡ selectRules a r
-unread a v rules f r e g h k = ap (selectNumber rules) (sym k) ∙ good a v rules r e g h
+unread a v n rules f r e g h k = ap (selectNumber rules) (sym k) ∙ good a v n rules r e g h
 
 -- ---- the pack that is `other:` alone
 

@@ -6,7 +6,7 @@ ghost use Rattle.bare.specs.Bare.{bareRule};
 ghost use Rattle.select.specs.Select.{selectNumber, selectRules, selectOf};
 use answer::Keyword;
 use number::Reading;
-use pack::Verdict;
+use pack::Read;
 use plural::Selection;
 
 // By the pack that is `other:` alone.
@@ -19,30 +19,49 @@ fn select_bare(reading: Reading) -> Selection
     }
 }
 
-// By a pack that has to be read. Its arrays are lent: handed on by value, the pack would be copied.
+// By a pack that has to be read, into arrays that stand here and are lent from here.
 fn select_read(pack: &[u8], reading: Reading) -> Selection
     ensures { λ r. ⌜ r ≡ selectRules (readPack (now (pack .entry))) reading ⌝ }
 {
-    let p = pack::read_pack(pack);
-    let verdict = pack::verdict_of(p.row, p.place);
-    match verdict {
-        Verdict::Good => match reading {
+    let mut low: [u32; 2048] = [0; 2048];
+    let mut high: [u32; 2048] = [0; 2048];
+    let mut operand: [u8; 320] = [0; 320];
+    let mut modulus: [u32; 320] = [0; 320];
+    let mut negated = [false; 320];
+    let mut ranges: [usize; 320] = [0; 320];
+    let mut relations: [usize; 40] = [0; 40];
+    let mut keyword: [u8; 6] = [0; 6];
+    let mut clauses: [usize; 6] = [0; 6];
+    let read = pack::read_pack(
+        pack,
+        &mut low,
+        &mut high,
+        &mut operand,
+        &mut modulus,
+        &mut negated,
+        &mut ranges,
+        &mut relations,
+        &mut keyword,
+        &mut clauses,
+    );
+    match read {
+        Read::Rules(count) => match reading {
             Reading::Is(x) => plural::select_held(
-                &p.operand,
-                &p.modulus,
-                &p.negated,
-                &p.ranges,
-                &p.low,
-                &p.high,
-                &p.relations,
-                &p.keyword,
-                &p.clauses,
-                p.count,
+                &operand,
+                &modulus,
+                &negated,
+                &ranges,
+                &low,
+                &high,
+                &relations,
+                &keyword,
+                &clauses,
+                count,
                 x,
             ),
             Reading::Refused(refusal) => Selection::Refused(refusal),
         },
-        Verdict::Refused(refusal) => Selection::Refused(refusal),
+        Read::Refused(refusal) => Selection::Refused(refusal),
     }
 }
 

@@ -1,9 +1,10 @@
--- `clash::check`: the arrays of floors are filled, and the pairs in turn are those of the rules that the pack holds.
+-- `clash::check`: the profiles and floors are filled in, and the pairs in turn are those of the rules that the pack holds.
 use native.Mathlib.Omega.{arith}
 use Rattle.rules.specs.Held.{lent}
 use Rattle.rules.specs.Stretch.{table}
 use Rattle.clash_laws.proofs.Flooring.{floored-fresh}
 use Rattle.clash_laws.proofs.Holding.{held-is}
+use Rattle.clash_laws.proofs.Profiles.{profiled-rules}
 use borrow.Author.Needs.{needs}
 use Rattle.clash.proofs.check.Statement.{statement}
 use Rattle.clash.proofs.check.Tie as tie
@@ -14,38 +15,29 @@ sized-requires c κs = search needs
 rule-count-requires : tie.Need-rule-count-requires
 rule-count-requires c κs = search needs
 
-clauses-before-requires : tie.Need-clauses-before-requires
-clauses-before-requires c κs = omega (arith, c .rule-count .ensures)
+clauses-end-requires : tie.Need-clauses-end-requires
+clauses-end-requires c κs = omega (arith, c .rule-count .ensures)
 
 fill-requires : tie.Need-fill-requires
-fill-requires c κs =
-    let a = c .before .before .before .before .before .before .before .before .before .before .before .before .before .before .before .args in
-    let T = table (a .operand .now) (a .modulus .now) (a .negated .now) (a .ranges .now) (a .low .now) (a .high .now) in
-    (omega (arith, c .before .before .before .clauses-before .ensures), floored-fresh T (a .relations .now))
+fill-requires c κs = c .before .clauses-end .ensures .0
+
+fill-requires-2 : tie.Need-fill-requires-2
+fill-requires-2 c κs = let a = c .before .before .before .before .before .before .before .before .before .before .before .before .before .before .before .before .before .args in let T = table (a .operand .now) (a .modulus .now) (a .negated .now) (a .ranges .now) (a .low .now) (a .high .now) in (c .before .before .before .before .before .clauses-end .ensures .0, floored-fresh T (a .relations .now))
 
 first-pair-requires : tie.Need-first-pair-requires
-first-pair-requires c κs = (omega (arith, c .before .before .before .before .before .before .before .before .rule-count .ensures), c .before .before .before .fill .ensures)
+first-pair-requires c κs = let a = c .before .before .before .before .before .before .before .before .before .before .before .before .before .before .before .before .before .before .before .before .before .before .args in let T = table (a .operand .now) (a .modulus .now) (a .negated .now) (a .ranges .now) (a .low .now) (a .high .now) in ((omega (arith, c .before .before .before .before .before .before .before .before .before .before .before .rule-count .ensures), c .before .before .before .before .fill2 .ensures), profiled-rules T (a .relations .now) (a .clauses .now) (c .before .before .before .before .before .before .before .before .before .before .before .rule-count .result) (c .before .before .before .before .before .before .before .before .before .before .clauses-end .result) (c .before .before .before .before .before .before .before .before .fill .last .1 .1 .1 .1 .1 .1 .1 .0) (c .before .before .before .before .before .before .before .before .fill .ensures) (c .before .before .before .before .before .before .before .before .before .before .clauses-end .ensures .1))
 
--- the arrays are as long as they are declared
 returns : tie.Need-returns
-returns c =
-    let n = c .before .before .before .before .before .before .before .before .before in
-    let s = c .before .before .before .before .before .before .before .before .before .before .before in
-    let a = s .before .before .before .before .before .before .before .before .before .args in
-    held-is (lent (a .low .now) (a .high .now) (a .operand .now) (a .modulus .now) (a .negated .now) (a .ranges .now) (a .relations .now) (a .keyword .now) (a .clauses .now) (a .count))
-    (n .rule-count .result) (c .first-pair .result)
-    (record {
-      low = s .before .before .before .before .sized-arg5 .given .0;
-      high = s .before .before .before .sized-arg6 .given .0;
-      operand = s .before .before .before .before .before .before .before .before .sized-arg .given .0;
-      modulus = s .before .before .before .before .before .before .before .sized-arg2 .given .0;
-      negated = s .before .before .before .before .before .before .sized-arg3 .given .0;
-      ranges = s .before .before .before .before .before .sized-arg4 .given .0;
-      relations = s .before .before .sized-arg7 .given .0;
-      keyword = s .before .sized-arg8 .given .0;
-      clauses = s .sized-arg9 .given .0;
-    })
-    (n .rule-count .ensures) (c .first-pair .ensures)
+returns c = let a = c .before .before .before .before .before .before .before .before .before .before .before .before .before .before .before .before .before .before .before .before .before .before .before .args in let T = table (a .operand .now) (a .modulus .now) (a .negated .now) (a .ranges .now) (a .low .now) (a .high .now) in held-is (lent (a .low .now) (a .high .now) (a .operand .now) (a .modulus .now) (a .negated .now) (a .ranges .now) (a .relations .now) (a .keyword .now) (a .clauses .now) (a .count)) (c .before .before .before .before .before .before .before .before .before .before .before .before .rule-count .result) (c .first-pair .result) (record { low = c .before .before .before .before .before .before .before .before .before .before .before .before .before .before .before .before .before .before .sized-arg5 .given .0; high = c .before .before .before .before .before .before .before .before .before .before .before .before .before .before .before .before .before .sized-arg6 .given .0; operand = c .before .before .before .before .before .before .before .before .before .before .before .before .before .before .before .before .before .before .before .before .before .before .sized-arg .given .0; modulus = c .before .before .before .before .before .before .before .before .before .before .before .before .before .before .before .before .before .before .before .before .before .sized-arg2 .given .0; negated = c .before .before .before .before .before .before .before .before .before .before .before .before .before .before .before .before .before .before .before .before .sized-arg3 .given .0; ranges = c .before .before .before .before .before .before .before .before .before .before .before .before .before .before .before .before .before .before .before .sized-arg4 .given .0; relations = c .before .before .before .before .before .before .before .before .before .before .before .before .before .before .before .before .sized-arg7 .given .0; keyword = c .before .before .before .before .before .before .before .before .before .before .before .before .before .before .before .sized-arg8 .given .0; clauses = c .before .before .before .before .before .before .before .before .before .before .before .before .before .before .sized-arg9 .given .0 }) (c .before .before .before .before .before .before .before .before .before .before .before .before .rule-count .ensures) (c .first-pair .ensures)
 
 pub check-spec : {M : Type 1} → statement M
-check-spec = tie.close (tie.spec sized-requires rule-count-requires clauses-before-requires fill-requires first-pair-requires returns)
+check-spec =
+    tie.close
+    (tie.spec
+    sized-requires
+    rule-count-requires
+    clauses-end-requires
+    fill-requires
+    fill-requires-2
+    first-pair-requires
+    returns)

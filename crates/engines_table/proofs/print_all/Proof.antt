@@ -23,9 +23,6 @@ run-until-requires c κs = search needs
 upto-requires : tie.Need-upto-requires Inv-loop μ-loop
 upto-requires c κs = search needs
 
-read-pack-requires : tie.Need-read-pack-requires Inv-loop μ-loop
-read-pack-requires c κs = search needs
-
 print-check-requires : tie.Need-print-check-requires Inv-loop μ-loop
 print-check-requires c κs = search needs
 
@@ -51,7 +48,6 @@ print-all-spec =
     after-requires
     run-until-requires
     upto-requires
-    read-pack-requires
     print-check-requires
     next-line-requires
     loop-less

@@ -3,18 +3,27 @@ use native.Mathlib.Omega.{arith}
 use mathlib.Core.Path.{ap, _∙_}
 use Prim.Native.Nat.{_+_, _-_}
 use lib.ListN.{length}
-use Rattle.pack.specs.Board.{arraysOf, lastBoard}
-use Rattle.pack.proofs.Boards.{Stands, stands-first, stands-last, token-ends, takes, within-le, made, made-sized}
+use Rattle.pack.specs.Board.{Arrays, arraysOf, lastBoard}
+use Rattle.pack.proofs.Boards.{Stands, stands-first, stands-last, token-ends, token-less, takes, within-le}
 use Rattle.pack.proofs.Sims.{told}
 use borrow.Author.Needs.{needs}
 use Rattle.pack.proofs.read_pack.Statement.{statement}
 use Rattle.pack.proofs.read_pack.Tie as tie
 
 abbrev Inv-loop : tie.InvT-loop
-Inv-loop text s end p₀ w₀ at₀ p w at = Stands s end (arraysOf (p₀ .low) (p₀ .high) (p₀ .operand) (p₀ .modulus) (p₀ .negated) (p₀ .ranges) (p₀ .relations) (p₀ .keyword) (p₀ .clauses)) at w (arraysOf (p .low) (p .high) (p .operand) (p .modulus) (p .negated) (p .ranges) (p .relations) (p .keyword) (p .clauses))
+Inv-loop text low₀ high₀ operand₀ modulus₀ negated₀ ranges₀ relations₀ keyword₀ clauses₀ s end w₀ at₀ low high operand modulus negated ranges relations keyword clauses w at =
+    Stands s end (arraysOf low₀ high₀ operand₀ modulus₀ negated₀ ranges₀ relations₀ keyword₀ clauses₀) at w (arraysOf low high operand modulus negated ranges relations keyword clauses)
 
 abbrev μ-loop : tie.MeasureT-loop
-μ-loop text s end p₀ w₀ at₀ p w at = (length s + 1) - at
+μ-loop text low₀ high₀ operand₀ modulus₀ negated₀ ranges₀ relations₀ keyword₀ clauses₀ s end w₀ at₀ low high operand modulus negated ranges relations keyword clauses w at =
+    (length s + 1) - at
+
+-- the arrays as they are lent
+abbrev first : tie.Start Inv-loop μ-loop → Arrays
+first b = arraysOf (b .args .low .now) (b .args .high .now) (b .args .operand .now) (b .args .modulus .now) (b .args .negated .now) (b .args .ranges .now) (b .args .relations .now) (b .args .keyword .now) (b .args .clauses .now)
+
+sized-requires : tie.Need-sized-requires Inv-loop μ-loop
+sized-requires c κs = search needs
 
 within-requires : tie.Need-within-requires Inv-loop μ-loop
 within-requires c κs = search needs
@@ -34,77 +43,89 @@ piece-len-requires c κs = search needs
 token-at-requires : tie.Need-token-at-requires Inv-loop μ-loop
 token-at-requires c κs = search needs
 
-step-on-requires : tie.Need-step-on-requires Inv-loop μ-loop
-step-on-requires c κs = search needs
+step-after-requires : tie.Need-step-after-requires Inv-loop μ-loop
+step-after-requires c κs = search needs
 
-put-end-requires : tie.Need-put-end-requires Inv-loop μ-loop
-put-end-requires c κs = search needs
+put-values-requires : tie.Need-put-values-requires Inv-loop μ-loop
+put-values-requires c κs = search needs
 
-put-end-requires-2 : tie.Need-put-end-requires-2 Inv-loop μ-loop
-put-end-requires-2 c κs = search needs
+put-values-requires-2 : tie.Need-put-values-requires-2 Inv-loop μ-loop
+put-values-requires-2 c κs = search needs
 
 less-one-requires : tie.Need-less-one-requires Inv-loop μ-loop
 less-one-requires c κs = search needs
 
-put-end-requires-3 : tie.Need-put-end-requires-3 Inv-loop μ-loop
-put-end-requires-3 c κs = search needs
+put-values-requires-3 : tie.Need-put-values-requires-3 Inv-loop μ-loop
+put-values-requires-3 c κs = search needs
 
-put-operand-requires : tie.Need-put-operand-requires Inv-loop μ-loop
-put-operand-requires c κs = search needs
+put-bytes-requires : tie.Need-put-bytes-requires Inv-loop μ-loop
+put-bytes-requires c κs = search needs
 
-put-modulus-requires : tie.Need-put-modulus-requires Inv-loop μ-loop
-put-modulus-requires c κs = search needs
+put-values-requires-4 : tie.Need-put-values-requires-4 Inv-loop μ-loop
+put-values-requires-4 c κs = search needs
 
-put-negated-requires : tie.Need-put-negated-requires Inv-loop μ-loop
-put-negated-requires c κs = search needs
+put-flags-requires : tie.Need-put-flags-requires Inv-loop μ-loop
+put-flags-requires c κs = search needs
 
-put-ranges-requires : tie.Need-put-ranges-requires Inv-loop μ-loop
-put-ranges-requires c κs = search needs
+put-places-requires : tie.Need-put-places-requires Inv-loop μ-loop
+put-places-requires c κs = search needs
 
-put-relations-requires : tie.Need-put-relations-requires Inv-loop μ-loop
-put-relations-requires c κs = search needs
+put-places-requires-2 : tie.Need-put-places-requires-2 Inv-loop μ-loop
+put-places-requires-2 c κs = search needs
 
-put-keyword-requires : tie.Need-put-keyword-requires Inv-loop μ-loop
-put-keyword-requires c κs = search needs
+put-bytes-requires-2 : tie.Need-put-bytes-requires-2 Inv-loop μ-loop
+put-bytes-requires-2 c κs = search needs
 
-put-clauses-requires : tie.Need-put-clauses-requires Inv-loop μ-loop
-put-clauses-requires c κs = search needs
+put-places-requires-3 : tie.Need-put-places-requires-3 Inv-loop μ-loop
+put-places-requires-3 c κs = search needs
 
 add-skip-white : tie.Need-add-skip-white Inv-loop μ-loop
 add-skip-white c =
-    let l = within-le (c .before .before .before .before .before .before .before .before .before .before .before .before .before .before .before .before .before .before .before .before .before .before .before .before .before .before .before .before .before .before .before .before .before .before .before .before .before .before .before .args .text .now) _ (c .before .before .before .before .before .before .before .before .before .before .before .before .before .before .before .before .before .before .before .before .before .before .before .before .before .before .before .before .before .before .before .before .before .before .before .before .before .within .ensures) in
-    let z = token-ends (c .before .before .before .before .before .before .before .before .before .before .before .before .before .before .before .before .before .before .before .before .before .before .before .before .before .before .before .before .before .before .before .before .before .before .before .before .before .within .result .now) (c .before .before .before .before .before .before .before .before .before .before .before .before .before .before .before .before .before .before .before .before .before .before .before .before .before .before .before .before .before .before .before .before .before .loop .at) (c .before .before .before .before .before .before .before .before .before .before .before .before .before .before .before .before .before .before .before .before .before .before .before .before .before .before .before .before .before .before .before .piece-len .result) (c .before .before .before .before .before .before .before .before .before .before .before .before .before .before .before .before .before .before .before .before .before .before .before .before .before .before .before .before .before .before .before .before .before .loop .inv .none) (c .before .before .before .before .before .before .before .before .before .before .before .before .before .before .before .before .before .before .before .before .before .before .before .before .before .before .before .before .before .before .before .piece-len .ensures) (c .before .before .before .before .before .before .before .before .before .before .before .before .before .before .before .before .before .before .before .before .before .before .before .before .before .before .before .before .before .before .before .before .loop-test .taken) in
-    omega (arith, l, z)
+    let l = c .before .before .before .before .before .before .before .before .before .before .before .before .before .before .before .before .before .before .before .before .before .before .before .before .before .before .before .before .before .before .before .before .before .loop in
+    let m = c .before .before .before .before .before .before .before .before .before .before .before .before .before .before .before .before .before .before .before .before .before .before .before .before .before .before .before .before .before .before .before .piece-len in
+    let s = c .before .before .before .before .before .before .before .before .before .before .before .before .before .before .before .before .before .before .before .before .before .before .before .before .before .before .before .before .before .before .before .before .before .before .before .before .before .within in
+    let a = c .before .before .before .before .before .before .before .before .before .before .before .before .before .before .before .before .before .before .before .before .before .before .before .before .before .before .before .before .before .before .before .before .before .before .before .before .before .before .before .before .before .before .before .before .before .before .before .before .before .before .before .before .before .before .before .before .before .before .args in
+    omega (arith, within-le (a .text .now) (s .result .now) (s .ensures), token-ends (s .result .now) (l .at) (m .result) (l .inv .none) (m .ensures) (c .before .before .before .before .before .before .before .before .before .before .before .before .before .before .before .before .before .before .before .before .before .before .before .before .before .before .before .before .before .before .before .before .loop-test .taken) .1)
 
 skip-white-requires-2 : tie.Need-skip-white-requires-2 Inv-loop μ-loop
 skip-white-requires-2 c κs = search needs
 
 loop-less : tie.Need-loop-less Inv-loop μ-loop
 loop-less c =
-    let z = takes (c .before .before .before .before .before .before .before .before .before .before .before .before .before .before .before .before .before .before .before .before .before .before .before .before .before .before .before .before .before .before .before .before .before .before .loop .inv) (c .before .before .before .before .before .before .before .before .before .before .before .before .before .before .before .before .before .before .before .before .before .before .before .before .before .before .before .before .before .before .token-at .result .now) (c .before .before .before .before .before .before .before .before .before .before .before .before .before .before .before .before .before .before .before .before .before .before .before .before .before .before .before .before .before .before .before .before .piece-len .result) (c .skip-white2 .result)
-    (c .before .before .before .before .before .before .before .before .before .before .before .before .before .before .before .before .before .before .before .before .before .before .before .before .before .before .before .before .before .before .token-at .ensures) (c .before .before .before .before .before .before .before .before .before .before .before .before .before .before .before .before .before .before .before .before .before .before .before .before .before .before .before .before .before .before .before .before .piece-len .ensures) (c .before .before .before .before .before .before .before .before .before .before .before .before .before .before .before .before .before .before .before .before .before .before .before .before .before .before .before .before .before .before .before .before .before .loop-test .taken) (c .skip-white2 .ensures) (c .before .before .before .before .before .before .before .before .before .before .before .before .before .before .before .before .less-one .ensures) (c .before .before .before .before .before .before .before .before .before .before .before .before .before .before .before .before .before .before .before .before .before .before .before .before .before .step-on .result) (c .before .before .before .before .before .before .before .before .before .before .before .before .before .before .before .before .before .before .before .before .before .before .before .before .before .step-on .ensures)
-    (c .before .before .before .before .before .before .before .before .before .before .before .before .before .before .before .before .before .before .before .before .put-end .ensures) (c .before .before .before .before .before .before .before .before .before .before .before .before .before .before .before .before .before .before .put-end2 .ensures) (c .before .before .before .before .before .before .before .before .before .before .before .before .before .before .before .put-end3 .ensures) (c .before .before .before .before .before .before .before .before .before .before .before .before .before .put-operand .ensures) (c .before .before .before .before .before .before .before .before .before .before .before .put-modulus .ensures) (c .before .before .before .before .before .before .before .before .before .put-negated .ensures) (c .before .before .before .before .before .before .before .put-ranges .ensures) (c .before .before .before .before .before .put-relations .ensures) (c .before .before .before .put-keyword .ensures) (c .before .put-clauses .ensures) in
-    omega (arith, z .more, z .stands .within)
+    let l = c .before .before .before .before .before .before .before .before .before .before .before .before .before .before .before .before .before .before .before .before .before .before .before .before .before .before .before .before .before .before .before .before .before .before .loop in
+    let m = c .before .before .before .before .before .before .before .before .before .before .before .before .before .before .before .before .before .before .before .before .before .before .before .before .before .before .before .before .before .before .before .before .piece-len in
+    token-less (c .before .before .before .before .before .before .before .before .before .before .before .before .before .before .before .before .before .before .before .before .before .before .before .before .before .before .before .before .before .before .before .before .before .before .before .before .before .before .within .result .now) (l .at) (m .result) (c .skip-white2 .result) (l .inv .none) (m .ensures) (c .before .before .before .before .before .before .before .before .before .before .before .before .before .before .before .before .before .before .before .before .before .before .before .before .before .before .before .before .before .before .before .before .before .loop-test .taken) (c .skip-white2 .ensures)
 
 loop-again : tie.Need-loop-again Inv-loop μ-loop
 loop-again c =
-    takes (c .before .before .before .before .before .before .before .before .before .before .before .before .before .before .before .before .before .before .before .before .before .before .before .before .before .before .before .before .before .before .before .before .before .before .loop .inv) (c .before .before .before .before .before .before .before .before .before .before .before .before .before .before .before .before .before .before .before .before .before .before .before .before .before .before .before .before .before .before .token-at .result .now) (c .before .before .before .before .before .before .before .before .before .before .before .before .before .before .before .before .before .before .before .before .before .before .before .before .before .before .before .before .before .before .before .before .piece-len .result) (c .skip-white2 .result)
-    (c .before .before .before .before .before .before .before .before .before .before .before .before .before .before .before .before .before .before .before .before .before .before .before .before .before .before .before .before .before .before .token-at .ensures) (c .before .before .before .before .before .before .before .before .before .before .before .before .before .before .before .before .before .before .before .before .before .before .before .before .before .before .before .before .before .before .before .before .piece-len .ensures) (c .before .before .before .before .before .before .before .before .before .before .before .before .before .before .before .before .before .before .before .before .before .before .before .before .before .before .before .before .before .before .before .before .before .loop-test .taken) (c .skip-white2 .ensures) (c .before .before .before .before .before .before .before .before .before .before .before .before .before .before .before .before .less-one .ensures) (c .before .before .before .before .before .before .before .before .before .before .before .before .before .before .before .before .before .before .before .before .before .before .before .before .before .step-on .result) (c .before .before .before .before .before .before .before .before .before .before .before .before .before .before .before .before .before .before .before .before .before .before .before .before .before .step-on .ensures)
-    (c .before .before .before .before .before .before .before .before .before .before .before .before .before .before .before .before .before .before .before .before .put-end .ensures) (c .before .before .before .before .before .before .before .before .before .before .before .before .before .before .before .before .before .before .put-end2 .ensures) (c .before .before .before .before .before .before .before .before .before .before .before .before .before .before .before .put-end3 .ensures) (c .before .before .before .before .before .before .before .before .before .before .before .before .before .put-operand .ensures) (c .before .before .before .before .before .before .before .before .before .before .before .put-modulus .ensures) (c .before .before .before .before .before .before .before .before .before .put-negated .ensures) (c .before .before .before .before .before .before .before .put-ranges .ensures) (c .before .before .before .before .before .put-relations .ensures) (c .before .before .before .put-keyword .ensures) (c .before .put-clauses .ensures) .stands
+    let l = c .before .before .before .before .before .before .before .before .before .before .before .before .before .before .before .before .before .before .before .before .before .before .before .before .before .before .before .before .before .before .before .before .before .before .loop in
+    let g = c .before .before .before .before .before .before .before .before .before .before .before .before .before .before .before .before .before .before .before .before .before .before .before .before .before .step-after in
+    takes {first = first (c .before .before .before .before .before .before .before .before .before .before .before .before .before .before .before .before .before .before .before .before .before .before .before .before .before .before .before .before .before .before .before .before .before .before .before .before .before .before .before .before .before .before .before .before .before .before .before .before .before .before .before .before .before .before .before .before .before .before .before)} (l .inv) (c .before .before .before .before .before .before .before .before .before .before .before .before .before .before .before .before .before .before .before .before .before .before .before .before .before .before .before .before .before .before .token-at .result .now) (c .before .before .before .before .before .before .before .before .before .before .before .before .before .before .before .before .before .before .before .before .before .before .before .before .before .before .before .before .before .before .before .before .piece-len .result) (c .skip-white2 .result)
+    (c .before .before .before .before .before .before .before .before .before .before .before .before .before .before .before .before .before .before .before .before .before .before .before .before .before .before .before .before .before .before .token-at .ensures) (c .before .before .before .before .before .before .before .before .before .before .before .before .before .before .before .before .before .before .before .before .before .before .before .before .before .before .before .before .before .before .before .before .piece-len .ensures) (c .before .before .before .before .before .before .before .before .before .before .before .before .before .before .before .before .before .before .before .before .before .before .before .before .before .before .before .before .before .before .before .before .before .loop-test .taken) (c .skip-white2 .ensures) (c .before .before .before .before .before .before .before .before .before .before .before .before .before .before .before .before .less-one .ensures) (g .result) (g .ensures)
+    (c .before .before .before .before .before .before .before .before .before .before .before .before .before .before .before .before .before .before .before .before .put-values .ensures) (c .before .before .before .before .before .before .before .before .before .before .before .before .before .before .before .before .before .before .put-values2 .ensures) (c .before .before .before .before .before .before .before .before .before .before .before .before .before .before .before .put-values3 .ensures) (c .before .before .before .before .before .before .before .before .before .before .before .before .before .put-bytes .ensures) (c .before .before .before .before .before .before .before .before .before .before .before .put-values4 .ensures) (c .before .before .before .before .before .before .before .before .before .put-flags .ensures) (c .before .before .before .before .before .before .before .put-places .ensures)
+    (c .before .before .before .before .before .put-places2 .ensures) (c .before .before .before .put-bytes2 .ensures) (c .before .put-places3 .ensures)
 
 judge-all-requires : tie.Need-judge-all-requires Inv-loop μ-loop
 judge-all-requires c κs = search needs
 
-numbered-requires : tie.Need-numbered-requires Inv-loop μ-loop
-numbered-requires c κs = search needs
-
 returns : tie.Need-returns Inv-loop μ-loop
 returns c =
-    let l = c .before .before .before .before .loop in
-    let w =
-    told made (arraysOf (l .p .low) (l .p .high) (l .p .operand) (l .p .modulus) (l .p .negated) (l .p .ranges) (l .p .relations) (l .p .keyword) (l .p .clauses)) (l .w) (c .before .before .before .before .before .before .before .before .before .before .args .text .now) made-sized (stands-last (l .inv) (c .before .before .before .loop-test .left) ∙ ap (lastBoard made) (c .before .before .before .before .before .before .before .before .within .ensures))
-    (c .before .judge-all .ensures) (c .numbered .ensures) in
-    record { row = w .0; place = w .1; count = w .2; rules = w .3 }
+    let l = c .before .before .loop in
+    let a = c .before .before .before .before .before .before .before .before .before .before .before .before .before .before .before .before .before .before .before .before .before .before .before .before .before .before .before .args in
+    let b = first (c .before .before .before .before .before .before .before .before .before .before .before .before .before .before .before .before .before .before .before .before .before .before .before .before .before .before .before) in
+    told b (arraysOf (l .low) (l .high) (l .operand) (l .modulus) (l .negated) (l .ranges) (l .relations) (l .keyword) (l .clauses)) (l .w) (a .text .now)
+    (record {
+      low = c .before .before .before .before .before .before .before .before .before .before .before .before .before .before .before .before .before .before .before .before .before .before .before .before .sized-arg2 .given .0;
+      high = c .before .before .before .before .before .before .before .before .before .before .before .before .before .before .before .before .before .before .before .before .before .before .sized-arg4 .given .0;
+      operand = c .before .before .before .before .before .before .before .before .before .before .before .before .before .before .before .before .before .before .before .before .sized-arg6 .given .0;
+      modulus = c .before .before .before .before .before .before .before .before .before .before .before .before .before .before .before .before .before .before .sized-arg8 .given .0;
+      negated = c .before .before .before .before .before .before .before .before .before .before .before .before .before .before .before .before .sized-arg10 .given .0;
+      ranges = c .before .before .before .before .before .before .before .before .before .before .before .before .before .before .sized-arg12 .given .0;
+      relations = c .before .before .before .before .before .before .before .before .before .before .before .before .sized-arg14 .given .0;
+      keyword = c .before .before .before .before .before .before .before .before .before .before .sized-arg16 .given .0;
+      clauses = c .before .before .before .before .before .before .before .before .sized-arg18 .given .0;
+    })
+    (stands-last {first = b} (l .inv) (c .before .loop-test .left) ∙ ap (lastBoard b) (c .before .before .before .before .before .before .within .ensures)) (c .judge-all .ensures)
 
 pub read-pack-spec : {M : Type 1} → statement M
 read-pack-spec =
@@ -112,28 +133,28 @@ read-pack-spec =
     (tie.spec
     Inv-loop
     μ-loop
+    sized-requires
     within-requires
     start-requires
     skip-white-requires
     loop-holds
     piece-len-requires
     token-at-requires
-    step-on-requires
-    put-end-requires
-    put-end-requires-2
+    step-after-requires
+    put-values-requires
+    put-values-requires-2
     less-one-requires
-    put-end-requires-3
-    put-operand-requires
-    put-modulus-requires
-    put-negated-requires
-    put-ranges-requires
-    put-relations-requires
-    put-keyword-requires
-    put-clauses-requires
+    put-values-requires-3
+    put-bytes-requires
+    put-values-requires-4
+    put-flags-requires
+    put-places-requires
+    put-places-requires-2
+    put-bytes-requires-2
+    put-places-requires-3
     add-skip-white
     skip-white-requires-2
     loop-less
     loop-again
     judge-all-requires
-    numbered-requires
     returns)

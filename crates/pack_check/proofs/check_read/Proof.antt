@@ -1,4 +1,9 @@
--- `check_read` checks what is read of the text.
+-- `check_read` answers `checkPack`: the pack's refusal, or what its rules give.
+use mathlib.Core.Path.{ap, _∙_}
+use Rattle.grammar.specs.Reader.{readPack}
+use Rattle.pack_check.specs.Check.{checkedBy}
+use Rattle.pack_check.proofs.Order.{good, bad}
+use Rattle.pack.proofs.Sims.{rules-left}
 use borrow.Author.Needs.{needs}
 use Rattle.pack_check.proofs.check_read.Statement.{statement}
 use Rattle.pack_check.proofs.check_read.Tie as tie
@@ -6,11 +11,40 @@ use Rattle.pack_check.proofs.check_read.Tie as tie
 read-pack-requires : tie.Need-read-pack-requires
 read-pack-requires c κs = search needs
 
-check-parsed-requires : tie.Need-check-parsed-requires
-check-parsed-requires c κs = search needs
+enum-known-read : tie.Need-enum-known-read
+enum-known-read c = search needs
+
+check-requires : tie.Need-check-requires
+check-requires c κs = search needs
+
+checked-by-requires : tie.Need-checked-by-requires
+checked-by-requires c κs = search needs
+
+enum-known-read-2 : tie.Need-enum-known-read-2
+enum-known-read-2 c = search needs
 
 returns : tie.Need-returns
-returns c = c .check-parsed .ensures (c .before .before .before .args .pack .now) (c .before .read-pack .ensures)
+returns c =
+    let a = c .before .before .before .before .before .before .before .before .before .before .before .before .before .before .before .before .before .before .before .before .before .before .before .before .before .args in
+    let p = c .before .before .before .before .before .before .before .before .before .before .before .before .before .before .read-pack in
+    let e = c .before .before .before .before .before .before .before .before .before .before .before .before .read .given .1 in
+    c .checked-by .ensures ∙ ap checkedBy (c .before .check .ensures)
+    ∙ good (readPack (a .pack .now)) (p .result) _ _ (p .ensures .answer) e (rules-left (p .ensures) _ e)
+
+returns-2 : tie.Need-returns-2
+returns-2 c =
+    let a = c .before .before .before .before .before .before .before .before .before .before .before .before .before .before .args in
+    let p = c .before .before .before .read-pack in
+    bad (readPack (a .pack .now)) (p .result) _ (p .ensures .answer) (c .before .read2 .given .1)
 
 pub check-read-spec : {M : Type 1} → statement M
-check-read-spec = tie.close (tie.spec read-pack-requires check-parsed-requires returns)
+check-read-spec =
+    tie.close
+    (tie.spec
+    read-pack-requires
+    enum-known-read
+    check-requires
+    checked-by-requires
+    enum-known-read-2
+    returns
+    returns-2)

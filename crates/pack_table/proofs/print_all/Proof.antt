@@ -23,9 +23,6 @@ upto-requires c κs = search needs
 after-requires : tie.Need-after-requires Inv-loop μ-loop
 after-requires c κs = search needs
 
-read-pack-requires : tie.Need-read-pack-requires Inv-loop μ-loop
-read-pack-requires c κs = search needs
-
 print-reading-requires : tie.Need-print-reading-requires Inv-loop μ-loop
 print-reading-requires c κs = search needs
 
@@ -54,7 +51,6 @@ print-all-spec =
     line-end-requires
     upto-requires
     after-requires
-    read-pack-requires
     print-reading-requires
     returns
     add-from

@@ -3,6 +3,7 @@ use mathlib.Core.List.{List}
 use Prim.Native.Nat.{ℕ}
 use Rattle.answer.specs.declared.Keyword.the-variants.{Other}
 use Rattle.rules.specs.Syntax.{Relation}
+use Rattle.rules.specs.Held.{lent}
 use Rattle.clash_laws.specs.Check.{clashOf}
 use Rattle.clash_laws.proofs.Holding.{held-by}
 use borrow.Author.Needs.{needs}
@@ -13,6 +14,9 @@ use Rattle.plain_check.proofs.check.Tie as tie
 abbrev clauses-clash : List (List Relation) → List (List Relation) → ℕ
 clauses-clash a b = clashOf (record { keyword = Other; clauses = a }) (record { keyword = Other; clauses = b })
 
+sized-requires : tie.Need-sized-requires
+sized-requires c κs = search needs
+
 rule-count-requires : tie.Need-rule-count-requires
 rule-count-requires c κs = search needs
 
@@ -21,11 +25,21 @@ first-pair-requires c κs = search needs
 
 returns : tie.Need-returns
 returns c =
-    let s = c .before .before .before .before .before .before .before .before .before .before .before in
-    let n = c .before .before .before .before .before .before .before .before .before .before .rule-count in
-    held-by clauses-clash (s .args .t1) (n .result) (c .first-pair .result)
-    (record { low = search needs; high = search needs; operand = search needs; modulus = search needs; negated = search needs; ranges = search needs; relations = search needs; keyword = search needs; clauses = search needs })
+    let a = c .before .before .before .before .before .before .before .before .before .before .before .before .args in
+    let n = c .before .rule-count in
+    held-by clauses-clash (lent (a .low .now) (a .high .now) (a .operand .now) (a .modulus .now) (a .negated .now) (a .ranges .now) (a .relations .now) (a .keyword .now) (a .clauses .now) (a .count)) (n .result) (c .first-pair .result)
+    (record {
+      low = c .before .before .before .before .before .before .before .sized-arg5 .given .0;
+      high = c .before .before .before .before .before .before .sized-arg6 .given .0;
+      operand = c .before .before .before .before .before .before .before .before .before .before .before .sized-arg .given .0;
+      modulus = c .before .before .before .before .before .before .before .before .before .before .sized-arg2 .given .0;
+      negated = c .before .before .before .before .before .before .before .before .before .sized-arg3 .given .0;
+      ranges = c .before .before .before .before .before .before .before .before .sized-arg4 .given .0;
+      relations = c .before .before .before .before .before .sized-arg7 .given .0;
+      keyword = c .before .before .before .before .sized-arg8 .given .0;
+      clauses = c .before .before .before .sized-arg9 .given .0;
+    })
     (n .ensures) (c .first-pair .ensures)
 
 pub check-spec : {M : Type 1} → statement M
-check-spec = tie.close (tie.spec rule-count-requires first-pair-requires returns)
+check-spec = tie.close (tie.spec sized-requires rule-count-requires first-pair-requires returns)

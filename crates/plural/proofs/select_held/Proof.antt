@@ -5,8 +5,7 @@ use mathlib.Core.Path.{_≡_, ap, _∙_}
 use Rattle.plural.specs.declared.Selection.the-variants.{Word, Refused}
 use Prim.Native.Nat.{_<_, _≤_}
 use lib.Count.{ones, trailingZeros}
-use Rattle.rules.specs.Held.{lent}
-use Rattle.rules.specs.declared.Pack.{Pack}
+use Rattle.rules.specs.Held.{Pack, lent}
 use Rattle.rules.proofs.Stretches.{Sized}
 use Rattle.plural.proofs.Selections.{Met, met, first-small, none-met, one-met, second-small, two-met}
 use borrow.Author.Needs.{needs}

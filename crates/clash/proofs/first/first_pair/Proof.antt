@@ -9,20 +9,20 @@ use Rattle.clash.proofs.first.first_pair.Statement.{statement}
 use Rattle.clash.proofs.first.first_pair.Tie as tie
 
 abbrev Inv-loop : tie.InvT-loop
-Inv-loop operand modulus negated ranges low high relations clauses whole part tail n k₀ k = FromRule (table operand modulus negated ranges low high) relations clauses n 0 ≡ FromRule (table operand modulus negated ranges low high) relations clauses n k
+Inv-loop operand modulus negated ranges low high relations clauses whole part tail profiles n k₀ k = FromRule (table operand modulus negated ranges low high) relations clauses n 0 ≡ FromRule (table operand modulus negated ranges low high) relations clauses n k
 
 abbrev μ-loop : tie.MeasureT-loop
-μ-loop operand modulus negated ranges low high relations clauses whole part tail n k₀ k = n - k
+μ-loop operand modulus negated ranges low high relations clauses whole part tail profiles n k₀ k = n - k
 
 loop-holds : tie.Need-loop-holds Inv-loop μ-loop
 loop-holds c = refl
 
 later-clash-requires : tie.Need-later-clash-requires Inv-loop μ-loop
-later-clash-requires c κs = (search needs, c .before .before .pre .0, c .before .before .pre .1)
+later-clash-requires c κs = ((c .loop-test .taken, c .before .before .pre .0 .0, c .before .before .pre .0 .1), c .before .before .pre .1)
 
 clashes-requires : tie.Need-clashes-requires Inv-loop μ-loop
 clashes-requires c κs =
-    (omega (arith, c .before .before .before .before .before .pre .0), omega (arith, c .before .before .before .before .before .pre .0))
+    (omega (arith, c .before .before .before .before .before .pre .0 .0), omega (arith, c .before .before .before .before .before .pre .0 .0))
 
 returns : tie.Need-returns Inv-loop μ-loop
 returns c =

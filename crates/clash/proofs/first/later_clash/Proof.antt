@@ -10,19 +10,22 @@ use Rattle.clash.proofs.first.later_clash.Statement.{statement}
 use Rattle.clash.proofs.first.later_clash.Tie as tie
 
 abbrev Inv-loop : tie.InvT-loop
-Inv-loop operand modulus negated ranges low high relations clauses whole part tail p n q₀ q = (q ≤ n) × ((rest : Checked) → From (table operand modulus negated ranges low high) relations clauses p n (p + 1) rest ≡ From (table operand modulus negated ranges low high) relations clauses p n q rest)
+Inv-loop operand modulus negated ranges low high relations clauses whole part tail profiles p n q₀ q = (q ≤ n) × ((rest : Checked) → From (table operand modulus negated ranges low high) relations clauses p n (p + 1) rest ≡ From (table operand modulus negated ranges low high) relations clauses p n q rest)
 
 abbrev μ-loop : tie.MeasureT-loop
-μ-loop operand modulus negated ranges low high relations clauses whole part tail p n q₀ q = n - q
+μ-loop operand modulus negated ranges low high relations clauses whole part tail profiles p n q₀ q = n - q
 
 add-q : tie.Need-add-q Inv-loop μ-loop
 add-q c = search needs
 
 loop-holds : tie.Need-loop-holds Inv-loop μ-loop
-loop-holds c = (omega (arith, c .pre .0), λ rest. refl)
+loop-holds c = (omega (arith, c .pre .0 .0), λ rest. refl)
 
 pair-spot-requires : tie.Need-pair-spot-requires Inv-loop μ-loop
-pair-spot-requires c κs = (omega (arith, c .before .before .pre .0, c .before .before .pre .1), omega (arith, c .before .before .pre .1), c .before .before .pre .2)
+pair-spot-requires c κs =
+    let p = c .before .before .pre in
+    let a = c .before .before .args in
+    ((omega (arith, p .0 .0, p .0 .1), omega (arith, p .0 .1, c .loop-test .taken), p .0 .2), (p .1 (a .p) (p .0 .0), p .1 (c .before .loop .q) (c .loop-test .taken)))
 
 returns : tie.Need-returns Inv-loop μ-loop
 returns c =

@@ -11,11 +11,11 @@ use Rattle.clash.proofs.joined.both_spot.Statement.{statement}
 use Rattle.clash.proofs.joined.both_spot.Tie as tie
 
 abbrev Inv-loop : tie.InvT-loop
-Inv-loop operand modulus negated ranges low high relations whole part tail from to start stop best₀ k₀ best k =
+Inv-loop operand modulus negated ranges low high relations whole part tail profiles from to start stop best₀ k₀ best k =
     (min (spotRank best) (fastRank (bothOf (clausesIn (table operand modulus negated ranges low high) relations k to) (clausesIn (table operand modulus negated ranges low high) relations start stop))) ≡ fastRank (bothOf (clausesIn (table operand modulus negated ranges low high) relations from to) (clausesIn (table operand modulus negated ranges low high) relations start stop))) × Proper best
 
 abbrev μ-loop : tie.MeasureT-loop
-μ-loop operand modulus negated ranges low high relations whole part tail from to start stop best₀ k₀ best k = to - k
+μ-loop operand modulus negated ranges low high relations whole part tail profiles from to start stop best₀ k₀ best k = to - k
 
 nowhere-requires : tie.Need-nowhere-requires Inv-loop μ-loop
 nowhere-requires c κs = search needs
@@ -27,7 +27,9 @@ loop-holds c =
     (both-start T (a .relations .now) (a .to) (a .start) (a .stop) (spotRank (c .nowhere .result)) (a .from) (c .nowhere .ensures .0), c .nowhere .ensures .1)
 
 with-each-requires : tie.Need-with-each-requires Inv-loop μ-loop
-with-each-requires c κs = (omega (arith, c .before .before .before .pre .0), c .before .before .before .pre .1, c .before .loop .inv .1, c .before .before .before .pre .2)
+with-each-requires c κs =
+    let p = c .before .before .before .pre in
+    ((omega (arith, p .0 .0, c .loop-test .taken), p .0 .1, c .before .loop .inv .1, p .0 .2), (p .1 .0 (c .before .loop .k) (c .loop-test .taken), p .1 .1))
 
 add-k : tie.Need-add-k Inv-loop μ-loop
 add-k c = search needs

@@ -19,7 +19,11 @@ clauses-stop-requires-2 : tie.Need-clauses-stop-requires-2
 clauses-stop-requires-2 c κs = search needs
 
 both-spot-requires : tie.Need-both-spot-requires
-both-spot-requires c κs = (omega (arith, c .before .before .clauses-stop .ensures), omega (arith, c .clauses-stop2 .ensures), c .before .before .before .before .pre .2)
+both-spot-requires c κs =
+    let p = c .before .before .before .before .pre in
+    let to = c .before .before .clauses-stop .ensures in
+    let stop = c .clauses-stop2 .ensures in
+    ((omega (arith, to), omega (arith, stop), p .0 .2), (λ j h. p .1 .0 j (omega (arith, to, h)), λ j h. p .1 .1 j (omega (arith, stop, h))))
 
 returns : tie.Need-returns
 returns c =

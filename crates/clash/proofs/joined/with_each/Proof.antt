@@ -11,17 +11,19 @@ use Rattle.clash.proofs.joined.with_each.Statement.{statement}
 use Rattle.clash.proofs.joined.with_each.Tie as tie
 
 abbrev Inv-loop : tie.InvT-loop
-Inv-loop operand modulus negated ranges low high relations whole part tail k from to best₀ l₀ best l =
+Inv-loop operand modulus negated ranges low high relations whole part tail profiles k from to best₀ l₀ best l =
     (min (spotRank best) (fastRank (withEach (clauseAt (table operand modulus negated ranges low high) relations k) (clausesIn (table operand modulus negated ranges low high) relations l to))) ≡ min (spotRank best₀) (fastRank (withEach (clauseAt (table operand modulus negated ranges low high) relations k) (clausesIn (table operand modulus negated ranges low high) relations from to)))) × Proper best
 
 abbrev μ-loop : tie.MeasureT-loop
-μ-loop operand modulus negated ranges low high relations whole part tail k from to best₀ l₀ best l = to - l
+μ-loop operand modulus negated ranges low high relations whole part tail profiles k from to best₀ l₀ best l = to - l
 
 loop-holds : tie.Need-loop-holds Inv-loop μ-loop
-loop-holds c = (refl, c .pre .2)
+loop-holds c = (refl, c .pre .0 .2)
 
 joined-spot-requires : tie.Need-joined-spot-requires Inv-loop μ-loop
-joined-spot-requires c κs = (c .before .before .pre .0, omega (arith, c .before .before .pre .1), c .before .before .pre .3)
+joined-spot-requires c κs =
+    let p = c .before .before .pre in
+    ((p .0 .0, omega (arith, p .0 .1, c .loop-test .taken), p .0 .3), (p .1 .0, p .1 .1 (c .before .loop .l) (c .loop-test .taken)))
 
 earlier-requires : tie.Need-earlier-requires Inv-loop μ-loop
 earlier-requires c κs = (c .before .before .loop .inv .1, c .joined-spot .ensures .1)

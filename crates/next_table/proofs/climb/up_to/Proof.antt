@@ -18,11 +18,14 @@ abbrev μ-loop : tie.MeasureT-loop
 loop-holds : tie.Need-loop-holds Inv-loop μ-loop
 loop-holds c = refl
 
-mul-if1 : tie.Need-mul-if1 Inv-loop μ-loop
-mul-if1 c = search needs
+mul-wide : tie.Need-mul-wide Inv-loop μ-loop
+mul-wide c = search needs
 
-element-copy-out-if1 : tie.Need-element-copy-out-if1 Inv-loop μ-loop
-element-copy-out-if1 c = search needs
+element-copy-out-wide : tie.Need-element-copy-out-wide Inv-loop μ-loop
+element-copy-out-wide c = search needs
+
+wide-requires : tie.Need-wide-requires Inv-loop μ-loop
+wide-requires c κs = search needs
 
 up-from-requires : tie.Need-up-from-requires Inv-loop μ-loop
 up-from-requires c κs = search needs
@@ -37,16 +40,10 @@ loop-less : tie.Need-loop-less Inv-loop μ-loop
 loop-less c = search needs
 
 loop-again : tie.Need-loop-again Inv-loop μ-loop
-loop-again c =
-    let a = c .before .before .before .before .args in
-    let l = c .before .before .before .loop in
-    up-skip (a .starts .now) (a .ends .now) (l .k) (a .to) (a .m) (a .r) (a .z) (omega arith) (omega arith) ∙ l .inv
+loop-again c = let a = c .before .before .before .before .before .args in let l = c .before .before .before .before .loop in up-skip (a .starts .now) (a .ends .now) (l .k) (a .to) (a .m) (a .r) (a .z) (omega (arith, c .before .before .before .loop-test .taken)) (omega (arith, c .before .wide .ensures, c .if1 .left)) ∙ l .inv
 
 returns-2 : tie.Need-returns-2 Inv-loop μ-loop
-returns-2 c =
-    let a = c .before .before .args in
-    let l = c .before .loop in
-    up-end (a .starts .now) (a .ends .now) (l .k) (a .to) (a .m) (a .r) (a .z) (omega arith) ∙ l .inv
+returns-2 c = let a = c .before .before .args in let l = c .before .loop in up-end (a .starts .now) (a .ends .now) (l .k) (a .to) (a .m) (a .r) (a .z) (omega (arith, c .loop-test .left)) ∙ l .inv
 
 pub up-to-spec : {M : Type 1} → statement M
 up-to-spec =
@@ -55,8 +52,9 @@ up-to-spec =
     Inv-loop
     μ-loop
     loop-holds
-    mul-if1
-    element-copy-out-if1
+    mul-wide
+    element-copy-out-wide
+    wide-requires
     up-from-requires
     returns
     add-k

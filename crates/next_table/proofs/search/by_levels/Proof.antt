@@ -1,10 +1,7 @@
--- `next_table::search::by_levels`: by the table, or where no remainder is asked by the window alone; else each number is tried.
+-- `next_table::search::by_levels`: by its levels, or where they do not serve each number is tried.
 use native.Mathlib.Omega.{arith}
 use Prim.Native.Nat.{ℕ}
 use lib.ListN.{length-replicate}
-use Rattle.rules.specs.Stretch.{table}
-use Rattle.clash_laws.specs.Read.{joinedIn}
-use Rattle.next_table.proofs.Searching.{least-free}
 use borrow.Author.Needs.{needs}
 use Rattle.next_table.proofs.search.by_levels.Statement.{statement}
 use Rattle.next_table.proofs.search.by_levels.Tie as tie
@@ -13,52 +10,28 @@ size-of-requires : tie.Need-size-of-requires
 size-of-requires c κs = (c .pre .3, c .pre .4)
 
 try-each-requires : tie.Need-try-each-requires
-try-each-requires c κs =
-    let p = c .before .before .pre in
-    (p .1, p .2, p .3, p .4)
+try-each-requires c κs = let p = c .before .before .pre in (p .1, p .2, p .3, p .4)
 
 returns : tie.Need-returns
 returns c = c .try-each .ensures
 
 mark-levels-requires : tie.Need-mark-levels-requires
-mark-levels-requires c κs =
-    let p = c .before .before .before .before .pre in
-    (p .0, (p .3, p .4, omega (arith, c .before .before .before .size-of .ensures, c .before .before .if1 .left), length-replicate {A = ℕ} 16 0))
+mark-levels-requires c κs = let p = c .before .before .before .before .pre in (p .0, (p .3, p .4, omega (arith, c .before .before .before .size-of .ensures, c .before .before .if1 .left), length-replicate {A = ℕ} 16 0))
 
 array-read-if2 : tie.Need-array-read-if2
 array-read-if2 c = search needs
 
 try-each-requires-2 : tie.Need-try-each-requires-2
-try-each-requires-2 c κs =
-    let p = c .before .before .before .before .before .before .pre in
-    (p .1, p .2, p .3, p .4)
+try-each-requires-2 c κs = let p = c .before .before .before .before .before .before .pre in (p .1, p .2, p .3, p .4)
 
 returns-2 : tie.Need-returns-2
 returns-2 c = c .try-each2 .ensures
 
-asks-remainder-requires : tie.Need-asks-remainder-requires
-asks-remainder-requires c κs = search needs
-
-in-table-requires : tie.Need-in-table-requires
-in-table-requires c κs =
-    let p = c .before .before .before .before .before .before .before .before .before .before .before .pre in
-    ((p .0, p .1, p .2, p .3, p .4, omega (arith, c .before .before .before .before .before .before .before .before .before .before .size-of .ensures, c .before .before .before .before .before .before .before .before .before .if1 .left), c .before .before .before .before .before .before .mark-levels .ensures .0), (c .before .before .before .before .before .before .mark-levels .ensures .1 .1 (c .before .before .before .before .before .if2 .left), c .before .before .before .before .before .before .mark-levels .ensures .1 .0))
+by-window-requires : tie.Need-by-window-requires
+by-window-requires c κs = let m = c .before .before .before .mark-levels .ensures in let p = c .before .before .before .before .before .before .before .before .pre in ((p .0, p .1, p .2, p .3, p .4, omega (arith, c .before .before .before .before .before .before .before .size-of .ensures, c .before .before .before .before .before .before .if1 .left), m .0), (m .1 .1 (c .before .before .if2 .left), m .1 .0))
 
 returns-3 : tie.Need-returns-3
-returns-3 c = c .in-table .ensures
-
-in-window-requires : tie.Need-in-window-requires
-in-window-requires c κs =
-    let p = c .before .before .before .before .before .before .before .before .before .before .pre in
-    (p .0, p .1, p .2, p .3, p .4, omega (arith, c .before .before .before .before .before .before .before .before .before .size-of .ensures, c .before .before .before .before .before .before .before .before .if1 .left), c .before .before .before .before .before .mark-levels .ensures .0)
-
-returns-4 : tie.Need-returns-4
-returns-4 c =
-    let a = c .before .before .before .before .before .before .before .before .before .before .before .args in
-    let T = table (a .operand .now) (a .modulus .now) (a .negated .now) (a .ranges .now) (a .low .now) (a .high .now) in
-    let c′ = joinedIn T (a .s) in
-    let m = c .before .before .before .before .before .before .mark-levels .ensures in
-    least-free (a .q) c′ (m .1 .1 (c .before .before .before .before .before .if2 .left)) (λ j h. m .1 .0 j (omega arith) (c .before .before .before .asks-remainder .ensures (c .before .before .if3 .left) j h)) (c .in-window .ensures)
+returns-3 c = search needs
 
 pub by-levels-spec : {M : Type 1} → statement M
 by-levels-spec =
@@ -71,8 +44,5 @@ by-levels-spec =
     array-read-if2
     try-each-requires-2
     returns-2
-    asks-remainder-requires
-    in-table-requires
-    returns-3
-    in-window-requires
-    returns-4)
+    by-window-requires
+    returns-3)

@@ -1,65 +1,59 @@
--- `runs::clause::clause_run` joins the runs of its relations. Invariant: how far the relations so far say the same; the runs kept are right.
-use Rattle.rules.specs.Stretch.{table}
+-- `runs::clause::clause_run` joins the runs of its level's relations up to the first that says no. Invariant: those so far say yes; the runs kept are right.
 use native.Mathlib.Omega.{arith}
-use Prim.Native.Nat.{_-_, _≤_}
-use mathlib.Core.Path.{_≡_}
-use Rattle.least.specs.Seek.{Alike}
-use Rattle.runs.specs.Kept.{sizeOf, Kept}
-use Rattle.runs.proofs.Keeping.{First, clause-start, clause-more, clause-done}
+use Prim.Native.Nat.{_-_}
+use borrow.Author.Tests.{not-true, not-false}
+use Rattle.rules.specs.Stretch.{table}
+use Rattle.runs.specs.Kept.{Kept, Listed}
+use Rattle.runs.proofs.Keeping.{Agreed, agreed-start, agreed-more, agreed-all, digit-says-no, one-says-no}
 use borrow.Author.Needs.{needs}
 use Rattle.runs.proofs.clause.clause_run.Statement.{statement}
 use Rattle.runs.proofs.clause.clause_run.Tie as tie
 
 abbrev Inv-loop : tie.InvT-loop
-Inv-loop operand modulus negated ranges low high s q tiers level p says₀ stop₀ size run₀ k₀ says stop run k = Alike (First (table operand modulus negated ranges low high) s q level k) p (run .says) (run .stop) × Kept (table operand modulus negated ranges low high) s q level p says stop × (size ≡ sizeOf s) × (k ≤ size)
+Inv-loop operand modulus negated ranges low high s q list count level p says₀ stop₀ end₀ i₀ says stop end i =
+    Agreed (table operand modulus negated ranges low high) s q level list p i end × Kept (table operand modulus negated ranges low high) s q level p says stop
 
 abbrev μ-loop : tie.MeasureT-loop
-μ-loop operand modulus negated ranges low high s q tiers level p says₀ stop₀ size run₀ k₀ says stop run k = size - k
-
-size-of-requires : tie.Need-size-of-requires Inv-loop μ-loop
-size-of-requires c κs = search needs
+μ-loop operand modulus negated ranges low high s q list count level p says₀ stop₀ end₀ i₀ says stop end i = count - i
 
 digit-run-requires : tie.Need-digit-run-requires Inv-loop μ-loop
 digit-run-requires c κs = search needs
 
+returns : tie.Need-returns Inv-loop μ-loop
+returns c = let a = c .before .before .before .args in let T = table (a .operand .now) (a .modulus .now) (a .negated .now) (a .ranges .now) (a .low .now) (a .high .now) in let p = c .before .before .before .pre in let li = p .1 .1 .0 .3 in (digit-says-no T (a .s) (a .q) (a .level) (a .list .now) (a .count) (a .p) li (c .before .before .digit-run .result .says) (c .before .before .digit-run .result .stop) (c .before .before .digit-run .ensures .0) (not-true _ (c .if1 .taken)), (c .before .before .digit-run .ensures .1 .0, p .1 .1 .1))
+
 loop-holds : tie.Need-loop-holds Inv-loop μ-loop
-loop-holds c =
-    let a = c .before .before .args in
-    let T = table (a .operand .now) (a .modulus .now) (a .negated .now) (a .ranges .now) (a .low .now) (a .high .now) in
-    (clause-start T (a .s) (a .q) (a .level) (a .p) (c .digit-run .result .stop) (c .digit-run .result .says) (c .digit-run .ensures), c .before .before .pre .1 .1 .1, c .before .size-of .ensures, omega arith)
+loop-holds c = let a = c .before .before .before .args in let T = table (a .operand .now) (a .modulus .now) (a .negated .now) (a .ranges .now) (a .low .now) (a .high .now) in let p = c .before .before .before .pre in let li = p .1 .1 .0 .3 in let d = c .before .before .digit-run in let t = not-false _ (c .if1 .left) in (agreed-start T (a .s) (a .q) (a .level) (a .list .now) (a .count) (a .p) li (d .result .says) (d .result .stop) (d .ensures .0) t (d .ensures .1 .1 t), p .1 .1 .1)
 
-run-there-requires : tie.Need-run-there-requires Inv-loop μ-loop
-run-there-requires c κs =
-    let v = c .before .before .before .loop .inv in
-    (c .before .before .before .before .before .before .pre .0, (c .before .before .before .before .before .before .pre .1 .0, ((c .before .before .before .before .before .before .pre .1 .1 .0 .0, c .before .before .before .before .before .before .pre .1 .1 .0 .1, omega (arith, v .2, c .before .before .loop-test .taken), omega (arith, v .2, c .before .before .loop-test .taken, c .before .before .before .before .before .before .pre .1 .1 .0 .2), c .before .before .before .before .before .before .pre .1 .1 .0 .3), v .1)))
+mul-run-at : tie.Need-mul-run-at Inv-loop μ-loop
+mul-run-at c = search needs
 
-join-requires : tie.Need-join-requires Inv-loop μ-loop
-join-requires c κs = search needs
+element-copy-out-run-at : tie.Need-element-copy-out-run-at Inv-loop μ-loop
+element-copy-out-run-at c = search needs
 
-add-k : tie.Need-add-k Inv-loop μ-loop
-add-k c = search needs
+run-at-requires : tie.Need-run-at-requires Inv-loop μ-loop
+run-at-requires c κs = let a = c .before .before .before .before .before .before .before .before .args in let T = table (a .operand .now) (a .modulus .now) (a .negated .now) (a .ranges .now) (a .low .now) (a .high .now) in let p = c .before .before .before .before .before .before .before .before .pre in let li = p .1 .1 .0 .3 in let l = c .before .before .before .before .loop in let e = li .each (l .i) (c .before .before .before .loop-test .taken) in (p .0, (p .1 .0, ((p .1 .1 .0 .0, p .1 .1 .0 .1, e .0, omega (arith, e .0, p .1 .1 .0 .2), li .level, e .1), l .inv .1)))
+
+lesser-requires : tie.Need-lesser-requires Inv-loop μ-loop
+lesser-requires c κs = search needs
+
+returns-2 : tie.Need-returns-2 Inv-loop μ-loop
+returns-2 c = let a = c .before .before .before .before .before .before .before .before .before .before .before .before .args in let T = table (a .operand .now) (a .modulus .now) (a .negated .now) (a .ranges .now) (a .low .now) (a .high .now) in let p = c .before .before .before .before .before .before .before .before .before .before .before .before .pre in let li = p .1 .1 .0 .3 in let l = c .before .before .before .before .before .before .before .before .loop in let r = c .before .before .before .run-at in (one-says-no T (a .s) (a .q) (a .level) (a .list .now) (a .count) (a .p) li (l .i) (r .result .stop) (c .lesser .result) (r .result .says) (c .before .before .before .before .before .before .before .loop-test .taken) (p .1 .0 .self) (r .ensures .0) (not-true _ (c .before .if2 .taken)) (c .lesser .ensures), (omega (arith, c .lesser .ensures), r .ensures .1))
+
+lesser-requires-2 : tie.Need-lesser-requires-2 Inv-loop μ-loop
+lesser-requires-2 c κs = search needs
+
+add-i : tie.Need-add-i Inv-loop μ-loop
+add-i c = search needs
 
 loop-less : tie.Need-loop-less Inv-loop μ-loop
 loop-less c = search needs
 
 loop-again : tie.Need-loop-again Inv-loop μ-loop
-loop-again c =
-    let a = c .before .before .before .before .before .before .before .before .args in
-    let T = table (a .operand .now) (a .modulus .now) (a .negated .now) (a .ranges .now) (a .low .now) (a .high .now) in
-    let v = c .before .before .before .before .before .loop .inv in
-    (clause-more T (a .s) (a .q) (a .level) (c .before .before .before .before .before .loop .k) (a .p) (c .before .before .before .before .before .loop .run) (c .before .run-there .result) (c .join .result) (v .0) (c .before .run-there .ensures .0) (c .join .ensures), c .before .run-there .ensures .1, v .2, omega (arith, c .before .before .before .before .loop-test .taken))
+loop-again c = let a = c .before .before .before .before .before .before .before .before .before .before .before .before .args in let T = table (a .operand .now) (a .modulus .now) (a .negated .now) (a .ranges .now) (a .low .now) (a .high .now) in let p = c .before .before .before .before .before .before .before .before .before .before .before .before .pre in let li = p .1 .1 .0 .3 in let l = c .before .before .before .before .before .before .before .before .loop in let r = c .before .before .before .run-at in (agreed-more T (a .s) (a .q) (a .level) (a .list .now) (a .count) (a .p) li (l .i) (l .end) (r .result .stop) (c .lesser2 .result) (r .result .says) (l .inv .0) (r .ensures .0) (not-false _ (c .before .if2 .left)) (c .lesser2 .ensures), r .ensures .1)
 
-lesser-requires : tie.Need-lesser-requires Inv-loop μ-loop
-lesser-requires c κs = search needs
-
-returns : tie.Need-returns Inv-loop μ-loop
-returns c =
-    let a = c .before .before .before .before .before .args in
-    let T = table (a .operand .now) (a .modulus .now) (a .negated .now) (a .ranges .now) (a .low .now) (a .high .now) in
-    let l = c .before .before .loop in
-    let v = l .inv in
-    let r = clause-done T (a .s) (a .q) (a .level) (l .k) (a .p) (l .run .stop) (c .lesser .result) (l .run .says) (omega (arith, v .2, v .3)) (omega (arith, v .2, c .before .loop-test .left)) (c .before .before .before .before .before .pre .1 .0 .self) (v .0) (c .lesser .ensures) in
-    (r .0, (r .1, v .1))
+returns-3 : tie.Need-returns-3 Inv-loop μ-loop
+returns-3 c = let a = c .before .before .before .before .before .args in let T = table (a .operand .now) (a .modulus .now) (a .negated .now) (a .ranges .now) (a .low .now) (a .high .now) in let p = c .before .before .before .before .before .pre in let li = p .1 .1 .0 .3 in let l = c .before .loop in (agreed-all T (a .s) (a .q) (a .level) (a .list .now) (a .count) (a .p) li (l .i) (l .end) (c .loop-test .left) (l .inv .0), (l .inv .0 .near, l .inv .1))
 
 pub clause-run-spec : {M : Type 1} → statement M
 clause-run-spec =
@@ -67,13 +61,16 @@ clause-run-spec =
     (tie.spec
     Inv-loop
     μ-loop
-    size-of-requires
     digit-run-requires
+    returns
     loop-holds
-    run-there-requires
-    join-requires
-    add-k
+    mul-run-at
+    element-copy-out-run-at
+    run-at-requires
+    lesser-requires
+    returns-2
+    lesser-requires-2
+    add-i
     loop-less
     loop-again
-    lesser-requires
-    returns)
+    returns-3)

@@ -2,7 +2,8 @@
 use Rattle.rules.specs.Stretch.{table, relationAt}
 use native.Mathlib.Omega.{arith}
 use Prim.Native.Nat.{ℕ}
-use mathlib.Core.Path.{subst}
+use mathlib.Core.Path.{sym, ap, subst, _∙_}
+use Rattle.runs.specs.Kept.{tier}
 use Rattle.least.specs.Seek.{Alike}
 use Rattle.clash_laws.specs.Levels.{ownOne}
 use Rattle.runs.proofs.Keeping.{relationOf, kept-there, kept-set}
@@ -32,7 +33,11 @@ place-of-requires : tie.Need-place-of-requires
 place-of-requires c κs = search needs
 
 own-run-requires : tie.Need-own-run-requires
-own-run-requires c κs = search needs
+own-run-requires c κs =
+    let a = c .before .before .before .before .before .before .before .before .args in
+    let p = c .before .before .before .before .before .before .before .before .pre in
+    let T = table (a .operand .now) (a .modulus .now) (a .negated .now) (a .ranges .now) (a .low .now) (a .high .now) in
+    (p .0, (p .1 .0, (c .place-of .ensures .1, p .1 .1 .0 .4, p .1 .1 .0 .5 ∙ ap (λ (j : ℕ). tier (a .q) (relationAt T j)) (sym (c .place-of .ensures .0)))))
 
 element-write-says : tie.Need-element-write-says
 element-write-says c = search needs

@@ -1,81 +1,43 @@
--- `runs::relation::own_run`: a relation that is not asked at the level says yes of all numbers; else the multiples by its factor are asked.
+-- `runs::relation::own_run`: the multiples by its factor are asked.
 use Rattle.rules.specs.Stretch.{table, relationAt}
 use native.Mathlib.Omega.{arith}
+use mathlib.Core.Path.{_≡_, refl, sym, _∙_}
+use Prim.Native.Nat.{ℕ, _<_}
 use lib.ListN.{getD}
 use Rattle.clash_laws.proofs.Searched.{room-factor}
-use Rattle.runs.proofs.Levelling.{factor-fits, unasked-run, other-run, own-run}
+use Rattle.runs.proofs.Levelling.{factor-fits, own-run, tier-level, told-asked}
 use borrow.Author.Needs.{needs}
 use Rattle.runs.proofs.relation.own_run.Statement.{statement}
 use Rattle.runs.proofs.relation.own_run.Tie as tie
 
-element-copy-out-factor-of : tie.Need-element-copy-out-factor-of
-element-copy-out-factor-of c = search needs
+pos : (n : ℕ) → (n ≡ 0 → ⊥) → 0 < n
+pos n h = omega arith
 
-factor-of-requires : tie.Need-factor-of-requires
-factor-of-requires c κs = search needs
+element-copy-out-asked-factor : tie.Need-element-copy-out-asked-factor
+element-copy-out-asked-factor c = search needs
 
-returns : tie.Need-returns
-returns c =
-    let a = c .before .before .before .args in
-    let T = table (a .operand .now) (a .modulus .now) (a .negated .now) (a .ranges .now) (a .low .now) (a .high .now) in
-    (unasked-run (a .q) (relationAt T (a .j)) (c .before .factor-of .result) (c .before .factor-of .ensures) (a .level) (a .p) (omega (arith, c .before .before .before .pre .1 .0 .self)) (c .if1 .taken), omega arith)
-
-mul-wide : tie.Need-mul-wide
-mul-wide c = search needs
-
-element-copy-out-wide : tie.Need-element-copy-out-wide
-element-copy-out-wide c = search needs
-
-wide-requires : tie.Need-wide-requires
-wide-requires c κs = search needs
-
-level-of-requires : tie.Need-level-of-requires
-level-of-requires c κs =
-    let a = c .before .before .before .before .before .args in
-    factor-fits (a .q) (getD (a .operand .now) (a .j) 0) (c .before .before .before .factor-of .result) (c .before .before .before .before .before .pre .0) (c .before .before .before .factor-of .ensures)
-
-returns-2 : tie.Need-returns-2
-returns-2 c =
-    let a = c .before .before .before .before .before .before .before .args in
-    let T = table (a .operand .now) (a .modulus .now) (a .negated .now) (a .ranges .now) (a .low .now) (a .high .now) in
-    (other-run (a .q) (relationAt T (a .j)) (c .before .before .before .before .before .factor-of .result) (c .before .before .before .before .before .factor-of .ensures) (c .before .level-of .result) (a .level) (a .p) (omega (arith, c .before .before .before .before .before .before .before .pre .1 .0 .self)) (c .before .before .before .before .if1 .left) (rw (c .before .before .wide .ensures) at (c .before .level-of .ensures .0)) (c .if2 .taken), omega arith)
+asked-factor-requires : tie.Need-asked-factor-requires
+asked-factor-requires c κs = let a = c .before .args in let T = table (a .operand .now) (a .modulus .now) (a .negated .now) (a .ranges .now) (a .low .now) (a .high .now) in (c .before .pre .0, told-asked (a .q) (relationAt T (a .j)) (a .level) (c .before .pre .1 .1 .1) (c .before .pre .1 .1 .2))
 
 mul-listed-run : tie.Need-mul-listed-run
-mul-listed-run c =
-    let a = c .before .before .before .before .before .before .before .args in
-    omega (arith, room-factor (a .q) (a .p) (getD (a .operand .now) (a .j) 0) (c .before .before .before .before .before .factor-of .result) (c .before .before .before .before .before .before .before .pre .1 .0) (c .before .before .before .before .before .factor-of .ensures))
+mul-listed-run c = let a = c .before .before .args in let T = table (a .operand .now) (a .modulus .now) (a .negated .now) (a .ranges .now) (a .low .now) (a .high .now) in let f = c .asked-factor in omega (arith, room-factor (a .q) (a .p) (getD (a .operand .now) (a .j) 0) (f .result) (c .before .before .pre .1 .0) (f .ensures))
 
 listed-run-requires : tie.Need-listed-run-requires
-listed-run-requires c κs =
-    let a = c .before .before .before .before .before .before .before .args in
-    (c .before .before .before .before .before .before .before .pre .1 .1, room-factor (a .q) (a .p) (getD (a .operand .now) (a .j) 0) (c .before .before .before .before .before .factor-of .result) (c .before .before .before .before .before .before .before .pre .1 .0) (c .before .before .before .before .before .factor-of .ensures))
+listed-run-requires c κs = let a = c .before .before .args in let T = table (a .operand .now) (a .modulus .now) (a .negated .now) (a .ranges .now) (a .low .now) (a .high .now) in let f = c .asked-factor in (c .before .before .pre .1 .1 .0, room-factor (a .q) (a .p) (getD (a .operand .now) (a .j) 0) (f .result) (c .before .before .pre .1 .0) (f .ensures))
 
 upwards-by-requires : tie.Need-upwards-by-requires
-upwards-by-requires c κs =
-    let a = c .before .before .before .before .before .before .before .before .args in
-    (omega (arith, c .before .before .before .before .before .if1 .left), factor-fits (a .q) (getD (a .operand .now) (a .j) 0) (c .before .before .before .before .before .before .factor-of .result) (c .before .before .before .before .before .before .before .before .pre .0) (c .before .before .before .before .before .before .factor-of .ensures), c .listed-run .ensures .1)
+upwards-by-requires c κs = let a = c .before .before .before .args in let T = table (a .operand .now) (a .modulus .now) (a .negated .now) (a .ranges .now) (a .low .now) (a .high .now) in let f = c .before .asked-factor in let n = told-asked (a .q) (relationAt T (a .j)) (a .level) (c .before .before .before .pre .1 .1 .1) (c .before .before .before .pre .1 .1 .2) in (pos (f .result) (λ z. n (sym (f .ensures) ∙ z)), factor-fits (a .q) (getD (a .operand .now) (a .j) 0) (f .result) (c .before .before .before .pre .0) (f .ensures), c .listed-run .ensures .1)
 
-returns-3 : tie.Need-returns-3
-returns-3 c =
-    let a = c .before .before .before .before .before .before .before .before .before .args in
-    let T = table (a .operand .now) (a .modulus .now) (a .negated .now) (a .ranges .now) (a .low .now) (a .high .now) in
-    let r = c .before .listed-run .result in
-    let o = own-run (a .q) (relationAt T (a .j)) (c .before .before .before .before .before .before .before .factor-of .result) (c .before .before .before .before .before .before .before .factor-of .ensures) (c .before .before .before .level-of .result) (a .level) (a .p) (r .stop) (c .upwards-by .result) (r .says) (c .before .before .before .before .before .before .if1 .left) (rw (c .before .before .before .before .wide .ensures) at (c .before .before .before .level-of .ensures .0)) (c .before .before .if2 .left) (c .before .listed-run .ensures .0) (c .upwards-by .ensures) (c .before .listed-run .ensures .1) in
-    (o .0, o .1)
+returns : tie.Need-returns
+returns c = let a = c .before .before .before .before .args in let T = table (a .operand .now) (a .modulus .now) (a .negated .now) (a .ranges .now) (a .low .now) (a .high .now) in let r = relationAt T (a .j) in let f = c .before .before .asked-factor in let g = c .before .listed-run .result in let n = told-asked (a .q) (relationAt T (a .j)) (a .level) (c .before .before .before .before .pre .1 .1 .1) (c .before .before .before .before .pre .1 .1 .2) in let k : f .result ≡ 0 → ⊥ = λ z. n (sym (f .ensures) ∙ z) in let o = own-run (a .q) r (f .result) (f .ensures) (a .level) (a .level) (a .p) (g .stop) (c .upwards-by .result) (g .says) k (tier-level (a .q) r (f .result) (a .level) (f .ensures) k (c .before .before .before .before .pre .1 .1 .2)) refl (c .before .listed-run .ensures .0) (c .upwards-by .ensures) (c .before .listed-run .ensures .1) in (o .0, o .1)
 
 pub own-run-spec : {M : Type 1} → statement M
 own-run-spec =
     tie.close
     (tie.spec
-    element-copy-out-factor-of
-    factor-of-requires
-    returns
-    mul-wide
-    element-copy-out-wide
-    wide-requires
-    level-of-requires
-    returns-2
+    element-copy-out-asked-factor
+    asked-factor-requires
     mul-listed-run
     listed-run-requires
     upwards-by-requires
-    returns-3)
+    returns)

@@ -1,0 +1,173 @@
+// Profiles of clauses: what a clause leaves of e, of v and of w, whether f may be 0, and whether n and f
+// are asked, as bits of one number.
+//
+// Each bit is a test of every relation, so that two clauses joined have the bits that both have: the
+// profile of a pair of clauses is one `&`. Crate clash_laws has the definition (specs/Profile.antt).
+mod values;
+
+ghost use mathlib.Core.Path.{_≡_};
+ghost use mathlib.Core.Bool.{not};
+ghost use mathlib.Core.List.{List, [], _∷_};
+ghost use Prim.Native.Nat.{_/_, _%_, _≤_, _<_};
+ghost use Rattle.rules.specs.Syntax.{Relation};
+ghost use Rattle.rules.specs.Stretch.{table, relationAt, relationsIn};
+ghost use Rattle.plural.specs.Meaning.{all};
+ghost use Rattle.clash_laws.specs.Bounded.{bounded};
+ghost use Rattle.clash_laws.specs.Fast.{asksOf, exponentOf, passes, queryT};
+ghost use Rattle.clash_laws.specs.Profile.{packed, profileOf};
+use clash_laws::Bounds;
+
+// Every e, and every v or w.
+const EACH_E: u64 = 32_767;
+
+const EACH_PLACE: u64 = 1_023;
+
+// The flags of a relation of n, of f, of t, and of another letter; where f is 0 is told apart.
+const N_ASKED: u64 = 5;
+
+const F_ASKED: u64 = 2;
+
+const T_ASKED: u64 = 6;
+
+const NEITHER_ASKED: u64 = 7;
+
+// The factors of v, w and the flags in a profile, and how many bits v and w have.
+const V_PLACE: u64 = 1_048_576;
+
+const W_PLACE: u64 = 1_073_741_824;
+
+const ZERO_PLACE: u64 = 1_099_511_627_776;
+
+const N_PLACE: u64 = 2_199_023_255_552;
+
+const F_PLACE: u64 = 4_398_046_511_104;
+
+const PLACES: u64 = 1_024;
+
+// Four parts as one profile.
+fn pack_parts(e: u64, v: u64, w: u64, flags: u64) -> u64
+    requires { ⌜ (e < 1_048_576) × (v < 1_024) × (w < 1_024) × (flags < 8) ⌝ }
+    ensures { λ r. ⌜ r ≡ packed e v w flags ⌝ }
+{
+    ((flags * PLACES + w) * PLACES + v) * V_PLACE + e
+}
+
+// The profile of the relation j, by its letter.
+fn relation_profile<'a>(
+    operand: &'a [u8; 320],
+    modulus: &'a [u32; 320],
+    negated: &'a [bool; 320],
+    ranges: &'a [usize; 320],
+    low: &'a [u32; 2048],
+    high: &'a [u32; 2048],
+    j: usize,
+) -> u64
+    requires { ⌜ j < 320 ⌝ }
+    ensures { λ r. ⌜ r ≡ profileOf (relationAt (table (now (operand .entry)) (now (modulus .entry)) (now (negated .entry)) (now (ranges .entry)) (now (low .entry)) (now (high .entry))) j ∷ []) ⌝ }
+{
+    let o = operand[j];
+    if o == 110 {
+        if negated[j] {
+            return pack_parts(EACH_E, EACH_PLACE, EACH_PLACE, N_ASKED);
+        }
+        return pack_parts(EACH_E, EACH_PLACE, 1, N_ASKED);
+    }
+    if o == 105 {
+        return pack_parts(EACH_E, EACH_PLACE, EACH_PLACE, NEITHER_ASKED);
+    }
+    if o == 102 {
+        let zero = values::zero_of(operand, modulus, negated, ranges, low, high, j);
+        return pack_parts(EACH_E, EACH_PLACE, EACH_PLACE, zero + F_ASKED);
+    }
+    if o == 116 {
+        let zero = values::zero_of(operand, modulus, negated, ranges, low, high, j);
+        return pack_parts(EACH_E, EACH_PLACE, EACH_PLACE, zero + T_ASKED);
+    }
+    if o == 118 {
+        let v = values::places_of(operand, modulus, negated, ranges, low, high, j);
+        return pack_parts(EACH_E, v, EACH_PLACE, NEITHER_ASKED);
+    }
+    if o == 119 {
+        let w = values::places_of(operand, modulus, negated, ranges, low, high, j);
+        return pack_parts(EACH_E, EACH_PLACE, w, NEITHER_ASKED);
+    }
+    let e = values::exponents_of(operand, modulus, negated, ranges, low, high, j);
+    pack_parts(e, EACH_PLACE, EACH_PLACE, NEITHER_ASKED)
+}
+
+// The profile of the relations from place `from` to before `to`.
+pub fn clause_profile<'a>(
+    operand: &'a [u8; 320],
+    modulus: &'a [u32; 320],
+    negated: &'a [bool; 320],
+    ranges: &'a [usize; 320],
+    low: &'a [u32; 2048],
+    high: &'a [u32; 2048],
+    from: usize,
+    to: usize,
+) -> u64
+    requires { ⌜ to ≤ 320 ⌝ }
+    ensures { λ r. ⌜ r ≡ profileOf (relationsIn (table (now (operand .entry)) (now (modulus .entry)) (now (negated .entry)) (now (ranges .entry)) (now (low .entry)) (now (high .entry))) from to) ⌝ }
+{
+    let mut p = pack_parts(EACH_E, EACH_PLACE, EACH_PLACE, NEITHER_ASKED);
+    let mut j = from;
+    while j < to {
+        p = p & relation_profile(operand, modulus, negated, ranges, low, high, j);
+        j += 1;
+    }
+    p
+}
+
+// The profile with bounds for v as well. Bounds that every v has change nothing.
+pub fn within(p: u64, b: Bounds) -> u64
+    ensures { λ r. ⌜ ((c : List Relation) → p ≡ profileOf c → r ≡ profileOf (bounded b c)) ⌝ }
+{
+    if values::is_free(b) {
+        return p;
+    }
+    let v = values::between(b);
+    pack_parts(EACH_E, v, EACH_PLACE, NEITHER_ASKED) & p
+}
+
+// The least e that is left; past the largest where none is.
+pub fn exponent_of(p: u64) -> u64
+    ensures { λ r. ⌜ ((c : List Relation) → p ≡ profileOf c → r ≡ exponentOf c) ⌝ }
+{
+    let e = p % V_PLACE;
+    if e == 0 {
+        return 15;
+    }
+    u64::trailing_zeros(e) as u64
+}
+
+// The v, and the w, that are left, as bits.
+pub fn v_of(p: u64) -> u64
+    ensures { λ r. ⌜ r ≡ p / 1_048_576 % 1_024 ⌝ }
+{
+    p / V_PLACE % PLACES
+}
+
+pub fn w_of(p: u64) -> u64
+    ensures { λ r. ⌜ r ≡ p / 1_073_741_824 % 1_024 ⌝ }
+{
+    p / W_PLACE % PLACES
+}
+
+// Whether f may be 0, whether no relation asks n, and whether none asks f.
+pub fn allows_zero(p: u64) -> bool
+    ensures { λ r. ⌜ ((c : List Relation) → p ≡ profileOf c → r ≡ all (λ (r : Relation). passes (queryT 0) r 0) c) ⌝ }
+{
+    p / ZERO_PLACE % 2 == 1
+}
+
+pub fn spares_n(p: u64) -> bool
+    ensures { λ r. ⌜ ((c : List Relation) → p ≡ profileOf c → r ≡ not (asksOf 110 c)) ⌝ }
+{
+    p / N_PLACE % 2 == 1
+}
+
+pub fn spares_f(p: u64) -> bool
+    ensures { λ r. ⌜ ((c : List Relation) → p ≡ profileOf c → r ≡ not (asksOf 102 c)) ⌝ }
+{
+    p / F_PLACE % 2 == 1
+}
