@@ -15,8 +15,8 @@ use Rattle.plural.specs.Meaning.{any, all, inRange}
 use Rattle.plural.specs.Select.{bit}
 use Rattle.least.proofs.Seeking.{split, and-true, or-true-left, or-true-right, and-false-left, and-false-right}
 use Rattle.clash_laws.specs.Fast.{listed, test, asked, factor, passes, passesAll, ends, queryI}
-use Rattle.clash_laws.specs.Floors.{NoneBelow, Under}
-use Rattle.clash_laws.specs.Profile.{marks, round, reaches, spares, endsIn, lastOf, profileOf}
+use Rattle.clash_laws.specs.Floors.{Under, raised}
+use Rattle.clash_laws.specs.Profile.{marks, reaches, spares, endsIn, lastOf, profileOf, wholeDigits, partDigits}
 use Rattle.clash_laws.specs.declared.Floors.{Floors}
 use Rattle.clash_laws.proofs.Bits.{bit-at}
 use Rattle.clash_laws.proofs.Profiles.{part-whole, part-part}
@@ -142,9 +142,11 @@ none-ends whole c z x =
         let zero : 0 / 2 ^ d % 2 ≡ 0 = ap (λ (y : ℕ). y % 2) (zero-div (2 ^ d)) in
         sym zero ∙ ap (λ (y : ℕ). y / 2 ^ d % 2) (sym z) ∙ bit-at (λ (k : ℕ). all (lastOf whole k) c) 0 10 d (omega arith) ∙ ap (λ (k : ℕ). bit (all (lastOf whole k) c)) l
 
--- floors past every number where no digit is left
-pub shut-whole : (c : List Relation) (p f : ℕ) → p ≡ profileOf c → p / 8796093022208 % 1024 ≡ 0 → NoneBelow (queryI true) c f
-shut-whole c p f e z x h = none-ends true c (sym (part-whole c p e) ∙ z) x
-
-pub shut-part : (c : List Relation) (p f : ℕ) → p ≡ profileOf c → p / 9007199254740992 ≡ 0 → NoneBelow (queryI false) c f
-shut-part c p f e z x h = none-ends false c (sym (part-part c p e) ∙ z) x
+-- floors that are raised where no digit is left
+pub raised-under : (c : List Relation) (p : ℕ) (l : Floors) → p ≡ profileOf c → Under c l → Under c (raised p l)
+raised-under c p l e u =
+    record {
+      whole = tested (eqb (wholeDigits p) 0) (λ t x h. none-ends true c (sym (part-whole c p e) ∙ eqb-true (wholeDigits p) 0 t) x) (λ t x h. u .whole x (rw t at h));
+      part = tested (eqb (partDigits p) 0) (λ t x h. none-ends false c (sym (part-part c p e) ∙ eqb-true (partDigits p) 0 t) x) (λ t x h. u .part x (rw t at h));
+      tail = u .tail;
+    }

@@ -78,6 +78,13 @@ profileOf c =
 
 -- ---- what its parts say
 
+-- the last digits that are left where f is 0, and where it is not
+abbrev pub wholeDigits : ℕ → ℕ
+wholeDigits p = p / 8796093022208 % 1024
+
+abbrev pub partDigits : ℕ → ℕ
+partDigits p = p / 9007199254740992
+
 -- the bit k is set
 abbrev pub marked : ℕ → ℕ → Bool
 marked m k = eqb (m / 2 ^ k % 2) 1

@@ -15,7 +15,7 @@ ghost use Rattle.rules.specs.Stretch.{table, relationAt, relationsIn};
 ghost use Rattle.plural.specs.Meaning.{all};
 ghost use Rattle.clash_laws.specs.Bounded.{bounded};
 ghost use Rattle.clash_laws.specs.Fast.{asksOf, exponentOf, passes, queryT};
-ghost use Rattle.clash_laws.specs.Profile.{packed, profileOf};
+ghost use Rattle.clash_laws.specs.Profile.{packed, profileOf, wholeDigits, partDigits};
 use clash_laws::Bounds;
 
 // Every e, and every v or w.
@@ -194,13 +194,13 @@ pub fn spares_f(p: u64) -> bool
 
 // The last digits of i that are left where f is 0, and where it is not, as bits.
 pub fn whole_digits(p: u64) -> u64
-    ensures { λ r. ⌜ r ≡ p / 8_796_093_022_208 % 1_024 ⌝ }
+    ensures { λ r. ⌜ r ≡ wholeDigits p ⌝ }
 {
     p / WHOLE_PLACE % PLACES
 }
 
 pub fn part_digits(p: u64) -> u64
-    ensures { λ r. ⌜ r ≡ p / 9_007_199_254_740_992 ⌝ }
+    ensures { λ r. ⌜ r ≡ partDigits p ⌝ }
 {
     p / PART_PLACE
 }
