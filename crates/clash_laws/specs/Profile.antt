@@ -48,11 +48,11 @@ spares m d r = not (both (leb (r .low) d) (leb (m + d) (r .high + 10)))
 unfoldable pub endsIn : ℕ → Relation → Bool
 endsIn d r =
     if eqb (r .modulus % 10) 0 then
-      if r .negated then
-        if eqb (r .modulus) 0 then true else
-        all (spares (r .modulus) d) (r .ranges)
-      else
-      any (reaches d) (r .ranges)
+    if r .negated then
+    if eqb (r .modulus) 0 then true else
+    all (spares (r .modulus) d) (r .ranges)
+    else
+    any (reaches d) (r .ranges)
     else
     true
 

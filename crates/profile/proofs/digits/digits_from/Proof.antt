@@ -23,13 +23,13 @@ two-to-requires-2 : tie.Need-two-to-requires-2
 two-to-requires-2 c κs = omega (arith, c .before .pre .0)
 
 sub-m : tie.Need-sub-m
-sub-m c = 
+sub-m c =
     let a = c .before .before .args in
     let h : 2 ^ a .u ≤ 2 ^ (a .u + a .n + 1) = pow-mono {i = a .u} {j = a .u + a .n + 1} (omega arith) in
     omega (arith, c .two-to2 .ensures, c .before .two-to .ensures)
 
 add-result : tie.Need-add-result
-add-result c = 
+add-result c =
     let a = c .before .before .args in
     let p = c .before .before .pre in
     let h : 2 ^ (a .u + a .n + 1) ≤ 2 ^ 20 = pow-mono {i = a .u + a .n + 1} {j = 20} (omega (arith, p .0, p .1)) in
@@ -37,7 +37,7 @@ add-result c =
     omega (arith, c .two-to2 .ensures, c .before .two-to .ensures)
 
 returns : tie.Need-returns
-returns c = 
+returns c =
     let a = c .before .before .args in
     let p = c .before .before .pre in
     let e = ap₂ (λ (x y : ℕ). (x - y) % 1024 + (x - y) / 1024) (c .before .two-to .ensures) (c .two-to2 .ensures) ∙ in-a-row (a .u) (a .n) (p .0) (p .1) in

@@ -20,7 +20,7 @@ element-copy-out-m : tie.Need-element-copy-out-m
 element-copy-out-m c = search needs
 
 returns : tie.Need-returns
-returns c = 
+returns c =
     let a = c .before .before .args in
     let T = table (a .operand .now) (a .modulus .now) (a .negated .now) (a .ranges .now) (a .low .now) (a .high .now) in
     let r = relationAt T (a .j) in
@@ -39,7 +39,7 @@ any-reached-requires : tie.Need-any-reached-requires
 any-reached-requires c κs = search needs
 
 returns-2 : tie.Need-returns-2
-returns-2 c = 
+returns-2 c =
     let b = c .before .before .before .before .before in
     let a = b .before .before .args in
     let T = table (a .operand .now) (a .modulus .now) (a .negated .now) (a .ranges .now) (a .low .now) (a .high .now) in
@@ -49,7 +49,7 @@ returns-2 c =
     (ends-reached r e (c .any-reached .result) (not-true _ (c .before .if2 .taken)) (c .any-reached .ensures .0 ∙ ap (λ (l : List Range). valuesOf (λ (d : ℕ). any (reaches d) l) 10) g), c .any-reached .ensures .1)
 
 returns-3 : tie.Need-returns-3
-returns-3 c = 
+returns-3 c =
     let b = c .before .before .before .before .before in
     let a = b .before .before .args in
     let T = table (a .operand .now) (a .modulus .now) (a .negated .now) (a .ranges .now) (a .low .now) (a .high .now) in
@@ -61,7 +61,7 @@ all-spared-requires : tie.Need-all-spared-requires
 all-spared-requires c κs = search needs
 
 returns-4 : tie.Need-returns-4
-returns-4 c = 
+returns-4 c =
     let b = c .before .before .before .before .before .before in
     let a = b .before .before .args in
     let T = table (a .operand .now) (a .modulus .now) (a .negated .now) (a .ranges .now) (a .low .now) (a .high .now) in

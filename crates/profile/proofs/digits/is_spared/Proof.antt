@@ -25,7 +25,7 @@ add-result-2 : tie.Need-add-result-2
 add-result-2 c = search needs
 
 returns-2 : tie.Need-returns-2
-returns-2 c = 
+returns-2 c =
     let a = c .before .before .before .before .args in
     rw (c .before .wide2 .ensures, c .wide3 .ensures) (spared-from (a .a) (a .b) (a .m) (a .d) (omega (arith, c .before .before .if1 .left, c .before .before .before .wide .ensures)))
 

@@ -20,7 +20,7 @@ less-by-requires : tie.Need-less-by-requires
 less-by-requires c κs = search needs
 
 returns : tie.Need-returns
-returns c = 
+returns c =
     let a = c .before .before .before .before .before .args in
     let w = c .before .before .before .before .wide .ensures in
     let n = c .before .less-by .ensures in
@@ -31,7 +31,7 @@ digits-from-requires : tie.Need-digits-from-requires
 digits-from-requires c κs = (omega arith, omega (arith, c .if1 .left))
 
 returns-2 : tie.Need-returns-2
-returns-2 c = 
+returns-2 c =
     let a = c .before .before .before .before .before .before .args in
     let b = c .before .before .before in
     let n = c .before .before .less-by in
