@@ -1,12 +1,12 @@
 -- The values that pass a test, as bits: each bit, those of two tests, and the least.
 use mathlib.Core.Path.{_≡_, refl, sym, ap, ap₂, _∙_}
 use mathlib.Core.Bool.{Bool, true, false}
-use Prim.Native.Nat.{ℕ, zero, suc, _+_, _*_, _/_, _%_, _^_, _≤_, _<_, min}
+use Prim.Native.Nat.{ℕ, zero, suc, _+_, _*_, _/_, _%_, _^_, _≤_, _<_, min, max}
 use native.Mathlib.Nat.{pow-succ', div-div-eq-div-mul, div-one}
 use native.Mathlib.Omega.{arith}
-use lib.Bits.{bitAnd, and-step, and-zero-l}
+use lib.Bits.{bitAnd, bitOr, and-step, and-zero-l, or-step, or-zero-l}
 use lib.Count.{trailingZeros, under}
-use Rattle.decimal.specs.Choice.{both}
+use Rattle.decimal.specs.Choice.{both, either}
 use Rattle.rules.specs.Stretch.{stretch}
 use Rattle.plural.specs.Select.{bit, maskOf}
 use Rattle.plural.proofs.Masks.{half-of, low-of}
@@ -40,6 +40,28 @@ bits-and P Q from (suc n) =
     ∙ turn (maskOf (stretch (λ (x : ℕ). both (P x) (Q x)) (suc from) n)) (bit (both (P from) (Q from)))
   where
     each : (p q : Bool) → min (bit p) (bit q) ≡ bit (both p q)
+    each true true = refl
+    each true false = refl
+    each false true = refl
+    each false false = refl
+
+    turn : (m d : ℕ) → m * 2 + d ≡ d + 2 * m
+    turn m d = omega arith
+
+-- those that pass one of two
+pub bits-or : (P Q : ℕ → Bool) (from n : ℕ) → bitOr (maskOf (stretch P from n)) (maskOf (stretch Q from n)) ≡ maskOf (stretch (λ (x : ℕ). either (P x) (Q x)) from n)
+unfolding maskOf stretch
+bits-or P Q from zero = or-zero-l 0
+bits-or P Q from (suc n) =
+    let a = maskOf (stretch P (suc from) n) in
+    let b = maskOf (stretch Q (suc from) n) in
+    or-step (bit (P from) + 2 * a) (bit (Q from) + 2 * b)
+    ∙ ap₂ (λ (x y : ℕ). x * 2 + y)
+    (ap₂ bitOr (half-of (P from) a) (half-of (Q from) b) ∙ bits-or P Q (suc from) n)
+    (ap₂ max (low-of (P from) a) (low-of (Q from) b) ∙ each (P from) (Q from))
+    ∙ turn (maskOf (stretch (λ (x : ℕ). either (P x) (Q x)) (suc from) n)) (bit (either (P from) (Q from)))
+  where
+    each : (p q : Bool) → max (bit p) (bit q) ≡ bit (either p q)
     each true true = refl
     each true false = refl
     each false true = refl

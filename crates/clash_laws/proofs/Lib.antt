@@ -21,4 +21,5 @@ pub mod Flooring
 pub mod Bits
 pub mod Profiles
 pub mod Whole
+pub mod LastDigit
 pub mod LeastF

@@ -24,8 +24,8 @@ use Rattle.plural.proofs.Masks.{mask-fits}
 use Rattle.least.specs.Seek.{seek}
 use Rattle.least.proofs.Seeking.{split, and-false-left, and-false-right}
 use Rattle.clash_laws.specs.Bounded.{fromTo, placesBetween, bounded}
-use Rattle.clash_laws.specs.Fast.{test, listed, passes, factor, queryT, asksOf, ofExponent, settledE, settledV, settledW, settledF, exponentOf, fractions, partCode}
-use Rattle.clash_laws.specs.Profile.{valuesOf, marks, flagAt, packed, profileOf, marked, Settled, Profiled, ProfiledRules}
+use Rattle.clash_laws.specs.Fast.{test, listed, asked, passes, factor, queryI, queryT, asksOf, ofExponent, settledE, settledV, settledW, settledF, exponentOf, fractions, partCode}
+use Rattle.clash_laws.specs.Profile.{valuesOf, marks, flagAt, endsIn, lastOf, packed, profileOf, marked, Settled, Profiled, ProfiledRules}
 use Rattle.clash_laws.specs.declared.Bounds.{Bounds}
 use Rattle.clash_laws.proofs.Bounding.{places-test}
 use Rattle.clash_laws.proofs.Bits.{bit-at, bits-and, bits-first, bits-none}
@@ -50,6 +50,12 @@ module _ (c : List Relation) where
   w-lt : marks settledW (suc maxPlaces) c < 1024
   w-lt = marks-lt settledW (suc maxPlaces) c
 
+  flags-lt : marks flagAt 3 c < 8
+  flags-lt = marks-lt flagAt 3 c
+
+  last-lt : (whole : Bool) → marks (lastOf whole) 10 c < 1024
+  last-lt whole = marks-lt (lastOf whole) 10 c
+
 pub profile-join : (c d : List Relation) → bitAnd (profileOf c) (profileOf d) ≡ profileOf (c ++ d)
 unfolding profileOf
 profile-join c d =
@@ -57,12 +63,18 @@ profile-join c d =
     ∙ ap₂ (λ (x y : ℕ). x * 1048576 + y)
     (and-block 10 _ _ _ _ (v-lt c) (v-lt d)
     ∙ ap₂ (λ (x y : ℕ). x * 1024 + y)
-    (and-block 10 _ _ _ _ (w-lt c) (w-lt d) ∙ ap₂ (λ (x y : ℕ). x * 1024 + y) (marks-join flagAt 3 c d) (marks-join settledW (suc maxPlaces) c d))
+    (and-block 10 _ _ _ _ (w-lt c) (w-lt d)
+    ∙ ap₂ (λ (x y : ℕ). x * 1024 + y)
+    (and-block 3 _ _ _ _ (flags-lt c) (flags-lt d)
+    ∙ ap₂ (λ (x y : ℕ). x * 8 + y)
+    (and-block 10 _ _ _ _ (last-lt c true) (last-lt d true) ∙ ap₂ (λ (x y : ℕ). x * 1024 + y) (marks-join (lastOf false) 10 c d) (marks-join (lastOf true) 10 c d))
+    (marks-join flagAt 3 c d))
+    (marks-join settledW (suc maxPlaces) c d))
     (marks-join settledV (suc maxPlaces) c d))
     (marks-join settledE (suc maxExponent) c d)
 
 -- no relation: everything is free
-pub nothing : profileOf [] ≡ packed 32767 1023 1023 7
+pub nothing : profileOf [] ≡ packed 32767 1023 1023 7 1023 1023
 unfolding profileOf maskOf stretch
 nothing = refl
 
@@ -98,9 +110,11 @@ module _ (r : Relation) where
       last : (x y z : ℕ) → x + 2 * (y + 2 * z) ≡ x + 2 * (y + 2 * (z + 2 * 0))
       last x y z = omega arith
 
-  made : (e v w f : ℕ) → e ≡ marks settledE (suc maxExponent) (r ∷ []) → v ≡ marks settledV (suc maxPlaces) (r ∷ []) → w ≡ marks settledW (suc maxPlaces) (r ∷ []) → f ≡ marks flagAt 3 (r ∷ []) → packed e v w f ≡ profileOf (r ∷ [])
+  made : (e v w f i j : ℕ) → e ≡ marks settledE (suc maxExponent) (r ∷ []) → v ≡ marks settledV (suc maxPlaces) (r ∷ []) → w ≡ marks settledW (suc maxPlaces) (r ∷ []) → f ≡ marks flagAt 3 (r ∷ [])
+      → i ≡ marks (lastOf true) 10 (r ∷ []) → j ≡ marks (lastOf false) 10 (r ∷ []) → packed e v w f i j ≡ profileOf (r ∷ [])
   unfolding profileOf
-  made e v w f a b c d = ap₂ (λ (x y : ℕ). x * 1048576 + y) (ap₂ (λ (x y : ℕ). x * 1024 + y) (ap₂ (λ (x y : ℕ). x * 1024 + y) d c) b) a
+  made e v w f i j a b c d g h =
+      ap₂ (λ (x y : ℕ). x * 1048576 + y) (ap₂ (λ (x y : ℕ). x * 1024 + y) (ap₂ (λ (x y : ℕ). x * 1024 + y) (ap₂ (λ (x y : ℕ). x * 8 + y) (ap₂ (λ (x y : ℕ). x * 1024 + y) h g) d) c) b) a
 
   module _ (o : ℕ) (is : r .operand ≡ o) where
     -- a letter that asks nothing of e, of v, of w
@@ -116,6 +130,15 @@ module _ (r : Relation) where
     unfolding settledW
     any-w g h = free-places ∙ one-marks settledW (λ _. true) (suc maxPlaces) (λ x. rw (is, g, h))
 
+    -- of the last digit of i
+    any-last : (whole : Bool) → eqb (factor (queryI whole) o) 0 ≡ true → 1023 ≡ marks (lastOf whole) 10 (r ∷ [])
+    unfolding lastOf
+    any-last whole h = free-places ∙ one-marks (lastOf whole) (λ _. true) 10 (λ x. rw (is, h))
+
+    its-last : (whole : Bool) (m : ℕ) → eqb (factor (queryI whole) o) 0 ≡ false → m ≡ valuesOf (λ (d : ℕ). endsIn d r) 10 → m ≡ marks (lastOf whole) 10 (r ∷ [])
+    unfolding lastOf
+    its-last whole m h e = e ∙ one-marks (lastOf whole) (λ (d : ℕ). endsIn d r) 10 (λ x. rw (is, h))
+
     flag-n : not (eqb o 110) ≡ flagAt 1 r
     unfolding flagAt
     flag-n = rw is
@@ -130,50 +153,52 @@ module _ (r : Relation) where
     flag-zero h = rw (is, h)
 
   -- n: where it must be whole, w is 0
-  pub by-n : r .operand ≡ 110 → r .negated ≡ false → packed 32767 1023 1 5 ≡ profileOf (r ∷ [])
+  pub by-n : (m : ℕ) → r .operand ≡ 110 → r .negated ≡ false → m ≡ valuesOf (λ (d : ℕ). endsIn d r) 10 → packed 32767 1023 1 5 m 1023 ≡ profileOf (r ∷ [])
   unfolding ofExponent factor settledW
-  by-n e n = made 32767 1023 1 5 (any-e 110 e refl) (any-v 110 e refl) (only-zero ∙ one-marks settledW (λ w. eqb w 0) (suc maxPlaces) (λ x. rw (e, n) (or-not (eqb x 0)))) (flags true false true (flag-zero 110 e refl) (flag-n 110 e) (flag-f 110 e))
+  by-n m e n h = made 32767 1023 1 5 m 1023 (any-e 110 e refl) (any-v 110 e refl) (only-zero ∙ one-marks settledW (λ w. eqb w 0) (suc maxPlaces) (λ x. rw (e, n) (or-not (eqb x 0)))) (flags true false true (flag-zero 110 e refl) (flag-n 110 e) (flag-f 110 e)) (its-last 110 e true m refl h) (any-last 110 e false refl)
     where
       or-not : (a : Bool) → a ≡ either a false
       or-not true = refl
       or-not false = refl
 
-  pub by-not-n : r .operand ≡ 110 → r .negated ≡ true → packed 32767 1023 1023 5 ≡ profileOf (r ∷ [])
+  pub by-not-n : (m : ℕ) → r .operand ≡ 110 → r .negated ≡ true → m ≡ valuesOf (λ (d : ℕ). endsIn d r) 10 → packed 32767 1023 1023 5 m 1023 ≡ profileOf (r ∷ [])
   unfolding ofExponent factor settledW
-  by-not-n e n = made 32767 1023 1023 5 (any-e 110 e refl) (any-v 110 e refl) (free-places ∙ one-marks settledW (λ _. true) (suc maxPlaces) (λ x. rw (e, n) (or-true (eqb x 0)))) (flags true false true (flag-zero 110 e refl) (flag-n 110 e) (flag-f 110 e))
+  by-not-n m e n h = made 32767 1023 1023 5 m 1023 (any-e 110 e refl) (any-v 110 e refl) (free-places ∙ one-marks settledW (λ _. true) (suc maxPlaces) (λ x. rw (e, n) (or-true (eqb x 0)))) (flags true false true (flag-zero 110 e refl) (flag-n 110 e) (flag-f 110 e)) (its-last 110 e true m refl h) (any-last 110 e false refl)
     where
       or-true : (a : Bool) → true ≡ either a true
       or-true true = refl
       or-true false = refl
 
-  pub by-i : r .operand ≡ 105 → packed 32767 1023 1023 7 ≡ profileOf (r ∷ [])
+  pub by-i : (m : ℕ) → r .operand ≡ 105 → m ≡ valuesOf (λ (d : ℕ). endsIn d r) 10 → packed 32767 1023 1023 7 m m ≡ profileOf (r ∷ [])
   unfolding ofExponent factor
-  by-i e = made 32767 1023 1023 7 (any-e 105 e refl) (any-v 105 e refl) (any-w 105 e refl refl) (flags true true true (flag-zero 105 e refl) (flag-n 105 e) (flag-f 105 e))
+  by-i m e h =
+      made 32767 1023 1023 7 m m (any-e 105 e refl) (any-v 105 e refl) (any-w 105 e refl refl) (flags true true true (flag-zero 105 e refl) (flag-n 105 e) (flag-f 105 e))
+      (its-last 105 e true m refl h) (its-last 105 e false m refl h)
 
   zero-asked : (o : ℕ) → r .operand ≡ o → (o ≡ 102) ⊎ (o ≡ 116) → test r 0 ≡ flagAt 0 r
   unfolding flagAt passes factor
   zero-asked o e (inl h) = rw (e ∙ h)
   zero-asked o e (inr h) = rw (e ∙ h)
 
-  pub by-f : (z : Bool) → r .operand ≡ 102 → z ≡ test r 0 → packed 32767 1023 1023 (bit z + 2) ≡ profileOf (r ∷ [])
-  unfolding ofExponent
-  by-f z e h = made 32767 1023 1023 (bit z + 2) (any-e 102 e refl) (any-v 102 e refl) (any-w 102 e refl refl) (flags z true false (h ∙ zero-asked 102 e (inl refl)) (flag-n 102 e) (flag-f 102 e))
+  pub by-f : (z : Bool) → r .operand ≡ 102 → z ≡ test r 0 → packed 32767 1023 1023 (bit z + 2) 1023 1023 ≡ profileOf (r ∷ [])
+  unfolding ofExponent factor
+  by-f z e h = made 32767 1023 1023 (bit z + 2) 1023 1023 (any-e 102 e refl) (any-v 102 e refl) (any-w 102 e refl refl) (flags z true false (h ∙ zero-asked 102 e (inl refl)) (flag-n 102 e) (flag-f 102 e)) (any-last 102 e true refl) (any-last 102 e false refl)
 
-  pub by-t : (z : Bool) → r .operand ≡ 116 → z ≡ test r 0 → packed 32767 1023 1023 (bit z + 6) ≡ profileOf (r ∷ [])
-  unfolding ofExponent
-  by-t z e h = made 32767 1023 1023 (bit z + 6) (any-e 116 e refl) (any-v 116 e refl) (any-w 116 e refl refl) (flags z true true (h ∙ zero-asked 116 e (inr refl)) (flag-n 116 e) (flag-f 116 e))
+  pub by-t : (z : Bool) → r .operand ≡ 116 → z ≡ test r 0 → packed 32767 1023 1023 (bit z + 6) 1023 1023 ≡ profileOf (r ∷ [])
+  unfolding ofExponent factor
+  by-t z e h = made 32767 1023 1023 (bit z + 6) 1023 1023 (any-e 116 e refl) (any-v 116 e refl) (any-w 116 e refl refl) (flags z true true (h ∙ zero-asked 116 e (inr refl)) (flag-n 116 e) (flag-f 116 e)) (any-last 116 e true refl) (any-last 116 e false refl)
 
-  pub by-v : (m : ℕ) → r .operand ≡ 118 → m ≡ valuesOf (test r) (suc maxPlaces) → packed 32767 m 1023 7 ≡ profileOf (r ∷ [])
+  pub by-v : (m : ℕ) → r .operand ≡ 118 → m ≡ valuesOf (test r) (suc maxPlaces) → packed 32767 m 1023 7 1023 1023 ≡ profileOf (r ∷ [])
   unfolding ofExponent factor settledV
-  by-v m e h = made 32767 m 1023 7 (any-e 118 e refl) (h ∙ one-marks settledV (test r) (suc maxPlaces) (λ x. rw e)) (any-w 118 e refl refl) (flags true true true (flag-zero 118 e refl) (flag-n 118 e) (flag-f 118 e))
+  by-v m e h = made 32767 m 1023 7 1023 1023 (any-e 118 e refl) (h ∙ one-marks settledV (test r) (suc maxPlaces) (λ x. rw e)) (any-w 118 e refl refl) (flags true true true (flag-zero 118 e refl) (flag-n 118 e) (flag-f 118 e)) (any-last 118 e true refl) (any-last 118 e false refl)
 
-  pub by-w : (m : ℕ) → r .operand ≡ 119 → m ≡ valuesOf (test r) (suc maxPlaces) → packed 32767 1023 m 7 ≡ profileOf (r ∷ [])
+  pub by-w : (m : ℕ) → r .operand ≡ 119 → m ≡ valuesOf (test r) (suc maxPlaces) → packed 32767 1023 m 7 1023 1023 ≡ profileOf (r ∷ [])
   unfolding ofExponent factor settledW
-  by-w m e h = made 32767 1023 m 7 (any-e 119 e refl) (any-v 119 e refl) (h ∙ one-marks settledW (test r) (suc maxPlaces) (λ x. rw e)) (flags true true true (flag-zero 119 e refl) (flag-n 119 e) (flag-f 119 e))
+  by-w m e h = made 32767 1023 m 7 1023 1023 (any-e 119 e refl) (any-v 119 e refl) (h ∙ one-marks settledW (test r) (suc maxPlaces) (λ x. rw e)) (flags true true true (flag-zero 119 e refl) (flag-n 119 e) (flag-f 119 e)) (any-last 119 e true refl) (any-last 119 e false refl)
 
   -- any other letter is that of e
   pub by-e : (m : ℕ) → (r .operand ≡ 110 → ⊥) → (r .operand ≡ 105 → ⊥) → (r .operand ≡ 102 → ⊥) → (r .operand ≡ 116 → ⊥) → (r .operand ≡ 118 → ⊥) → (r .operand ≡ 119 → ⊥) → m ≡ valuesOf (test r) (suc maxExponent)
-      → packed m 1023 1023 7 ≡ profileOf (r ∷ [])
+      → packed m 1023 1023 7 1023 1023 ≡ profileOf (r ∷ [])
   unfolding ofExponent factor settledE flagAt passes
   by-e m n i f t v w h =
       let en = ne-eqb (r .operand) 110 n in
@@ -182,13 +207,14 @@ module _ (r : Relation) where
       let et = ne-eqb (r .operand) 116 t in
       let ev = ne-eqb (r .operand) 118 v in
       let ew = ne-eqb (r .operand) 119 w in
-      made m 1023 1023 7 (h ∙ one-marks settledE (test r) (suc maxExponent) (λ x. rw (en, ei, ef, et, ev, ew))) (any-v (r .operand) refl ev) (any-w (r .operand) refl en ew)
+      made m 1023 1023 7 1023 1023 (h ∙ one-marks settledE (test r) (suc maxExponent) (λ x. rw (en, ei, ef, et, ev, ew))) (any-v (r .operand) refl ev) (any-w (r .operand) refl en ew)
       (flags true true true (rw (en, ei, ef, et)) (rw en) (rw ef))
+      (any-last (r .operand) refl true (rw (en, ei, ef, et))) (any-last (r .operand) refl false (rw (en, ei, ef, et)))
 
 -- ---- bounds for v
 
 -- one relation more
-pub bounded-profile : (b : Bounds) (c : List Relation) (m p r : ℕ) → m ≡ valuesOf (fromTo b) (suc maxPlaces) → p ≡ profileOf c → r ≡ bitAnd (packed 32767 m 1023 7) p → r ≡ profileOf (bounded b c)
+pub bounded-profile : (b : Bounds) (c : List Relation) (m p r : ℕ) → m ≡ valuesOf (fromTo b) (suc maxPlaces) → p ≡ profileOf c → r ≡ bitAnd (packed 32767 m 1023 7 1023 1023) p → r ≡ profileOf (bounded b c)
 bounded-profile b c m p r e f g = g ∙ ap₂ bitAnd (by-v (placesBetween b) m refl (e ∙ ap (λ (h : ℕ → Bool). valuesOf h (suc maxPlaces)) (fun-ext (λ v. sym (places-test b v))))) f ∙ profile-join (placesBetween b ∷ []) c
 
 -- bounds that every v has
@@ -254,11 +280,11 @@ module _ (c : List Relation) (p : ℕ) (is : p ≡ profileOf c) where
   profile-settled vs ws e f = record { says = λ v w hv hw. both-all v w c ∙ ap₂ both (told settledV vs v (e ∙ part-v) hv) (told settledW ws w (f ∙ part-w) hw) }
 
   -- the flags
-  part-flags : p / 1099511627776 ≡ marks flagAt 3 c
+  part-flags : p / 1099511627776 % 8 ≡ marks flagAt 3 c
   unfolding profileOf
-  part-flags = let h = e-lt c in let k = v-lt c in let l = w-lt c in omega (arith, is)
+  part-flags = let h = e-lt c in let k = v-lt c in let l = w-lt c in let m = flags-lt c in omega (arith, is)
 
-  flag-is : (k : ℕ) (b : Bool) → k < 3 → b ≡ eqb (p / 1099511627776 / 2 ^ k % 2) 1 → b ≡ all (flagAt k) c
+  flag-is : (k : ℕ) (b : Bool) → k < 3 → b ≡ eqb (p / 1099511627776 % 8 / 2 ^ k % 2) 1 → b ≡ all (flagAt k) c
   flag-is k b h e =
       e ∙ ap (λ (x : ℕ). eqb (x / 2 ^ k % 2) 1) part-flags ∙ ap (λ (x : ℕ). eqb x 1) (bit-at (λ (x : ℕ). all (flagAt x) c) 0 3 k h) ∙ go (all (flagAt (0 + k)) c) ∙ ap (λ (x : ℕ). all (flagAt x) c) (let z : 0 + k ≡ k = omega arith in z)
     where
@@ -268,7 +294,7 @@ module _ (c : List Relation) (p : ℕ) (is : p ≡ profileOf c) where
 
   pub profile-zero : (b : Bool) → b ≡ eqb (p / 1099511627776 % 2) 1 → b ≡ all (λ (r : Relation). passes (queryT 0) r 0) c
   unfolding flagAt
-  profile-zero b e = flag-is 0 b (omega arith) (e ∙ ap (λ (x : ℕ). eqb (x % 2) 1) (sym (div-one (p / 1099511627776))))
+  profile-zero b e = flag-is 0 b (omega arith) (e ∙ ap (λ (x : ℕ). eqb x 1) (let z : p / 1099511627776 % 2 ≡ p / 1099511627776 % 8 / 2 ^ 0 % 2 = (let y : p / 1099511627776 % 2 ≡ p / 1099511627776 % 8 % 2 = omega arith in y) ∙ ap (λ (x : ℕ). x % 2) (sym (div-one (p / 1099511627776 % 8))) in z))
 
   none-asks : (o : ℕ) (c : List Relation) → all (λ (r : Relation). not (eqb (r .operand) o)) c ≡ not (asksOf o c)
   none-asks o [] = refl
@@ -280,11 +306,20 @@ module _ (c : List Relation) (p : ℕ) (is : p ≡ profileOf c) where
 
   pub profile-n : (b : Bool) → b ≡ eqb (p / 2199023255552 % 2) 1 → b ≡ not (asksOf 110 c)
   unfolding flagAt
-  profile-n b e = flag-is 1 b (omega arith) (e ∙ ap (λ (x : ℕ). eqb (x % 2) 1) (let z : p / 2199023255552 ≡ p / 1099511627776 / 2 = omega arith in z)) ∙ none-asks 110 c
+  profile-n b e = flag-is 1 b (omega arith) (e ∙ ap (λ (x : ℕ). eqb x 1) (let z : p / 2199023255552 % 2 ≡ p / 1099511627776 % 8 / 2 % 2 = omega arith in z)) ∙ none-asks 110 c
 
   pub profile-f : (b : Bool) → b ≡ eqb (p / 4398046511104 % 2) 1 → b ≡ not (asksOf 102 c)
   unfolding flagAt
-  profile-f b e = flag-is 2 b (omega arith) (e ∙ ap (λ (x : ℕ). eqb (x % 2) 1) (let z : p / 4398046511104 ≡ p / 1099511627776 / 4 = omega arith in z)) ∙ none-asks 102 c
+  profile-f b e = flag-is 2 b (omega arith) (e ∙ ap (λ (x : ℕ). eqb x 1) (let z : p / 4398046511104 % 2 ≡ p / 1099511627776 % 8 / 4 % 2 = omega arith in z)) ∙ none-asks 102 c
+
+  -- the last digit
+  pub part-whole : p / 8796093022208 % 1024 ≡ marks (lastOf true) 10 c
+  unfolding profileOf
+  part-whole = let h = e-lt c in let k = v-lt c in let l = w-lt c in let m = flags-lt c in let n = last-lt c true in omega (arith, is)
+
+  pub part-part : p / 9007199254740992 ≡ marks (lastOf false) 10 c
+  unfolding profileOf
+  part-part = let h = e-lt c in let k = v-lt c in let l = w-lt c in let m = flags-lt c in let n = last-lt c true in omega (arith, is)
 
 -- ---- where no w other than 0 is left with a v that is no less, f is 0
 

@@ -2,13 +2,15 @@
 use mathlib.Core.Path.{_≡_}
 use mathlib.Core.Bool.{Bool, true, false}
 use mathlib.Core.List.{List}
-use Prim.Native.Nat.{ℕ, _-_, _<_}
-use lib.Dec.{ltb}
+use Prim.Native.Nat.{ℕ, _-_, _^_, _<_}
+use lib.Dec.{eqb, ltb}
 use lib.ListN.{getD}
 use Rattle.decimal.specs.Choice.{if_then_else_}
+use Rattle.number.specs.Limits.{maxDigits}
 use Rattle.rules.specs.Syntax.{Relation}
 use Rattle.rules.specs.Stretch.{startAt, Table, clauseAt}
 use Rattle.clash_laws.specs.Fast.{Query, queryI, alone, passesAll}
+use Rattle.clash_laws.specs.Profile.{wholeDigits, partDigits}
 use Rattle.clash_laws.specs.declared.Floors.{Floors}
 
 -- no number below f passes
@@ -20,6 +22,15 @@ pub record Under (c : List Relation) (l : Floors) : Type 0 where
   pub whole : NoneBelow (queryI true) c (l .whole)
   pub part : NoneBelow (queryI false) c (l .part)
   pub tail : NoneBelow alone c (l .tail)
+
+-- floors by a profile too: past every i where no last digit is left
+abbrev pub raised : ℕ → Floors → Floors
+raised p l =
+    record {
+      whole = if eqb (wholeDigits p) 0 then 10 ^ maxDigits else l .whole;
+      part = if eqb (partDigits p) 0 then 10 ^ maxDigits else l .part;
+      tail = l .tail;
+    }
 
 -- the floors of the clause j, in arrays
 abbrev pub floorsAt : List ℕ → List ℕ → List ℕ → ℕ → Floors

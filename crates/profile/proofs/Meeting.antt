@@ -12,7 +12,7 @@ use Rattle.clash_laws.specs.Profile.{packed, profileOf}
 use Rattle.clash_laws.proofs.Profiles.{nothing, profile-join}
 
 module _ (T : Table) (from : ℕ) where
-  pub met-none : (j p : ℕ) → j ≡ from → p ≡ packed 32767 1023 1023 7 → p ≡ profileOf (relationsIn T from j)
+  pub met-none : (j p : ℕ) → j ≡ from → p ≡ packed 32767 1023 1023 7 1023 1023 → p ≡ profileOf (relationsIn T from j)
   met-none j p e f = f ∙ sym nothing ∙ ap profileOf (sym (stretch-nil (relationAt T) from j (omega arith)))
 
   pub met-more : (j p q r : ℕ) → from ≤ j → p ≡ profileOf (relationsIn T from j) → q ≡ profileOf (relationAt T j ∷ []) → r ≡ bitAnd p q → r ≡ profileOf (relationsIn T from (j + 1))

@@ -1,8 +1,9 @@
-// Profiles of clauses: what a clause leaves of e, of v and of w, whether f may be 0, and whether n and f
-// are asked, as bits of one number.
+// Profiles of clauses: what a clause leaves of e, of v, of w and of the last digit of i, whether f may be
+// 0, and whether n and f are asked, as bits of one number.
 //
 // Each bit is a test of every relation, so that two clauses joined have the bits that both have: the
 // profile of a pair of clauses is one `&`. Crate clash_laws has the definition (specs/Profile.antt).
+mod digits;
 mod values;
 
 ghost use mathlib.Core.Path.{_≡_};
@@ -14,7 +15,7 @@ ghost use Rattle.rules.specs.Stretch.{table, relationAt, relationsIn};
 ghost use Rattle.plural.specs.Meaning.{all};
 ghost use Rattle.clash_laws.specs.Bounded.{bounded};
 ghost use Rattle.clash_laws.specs.Fast.{asksOf, exponentOf, passes, queryT};
-ghost use Rattle.clash_laws.specs.Profile.{packed, profileOf};
+ghost use Rattle.clash_laws.specs.Profile.{packed, profileOf, wholeDigits, partDigits};
 use clash_laws::Bounds;
 
 // Every e, and every v or w.
@@ -31,7 +32,7 @@ const T_ASKED: u64 = 6;
 
 const NEITHER_ASKED: u64 = 7;
 
-// The factors of v, w and the flags in a profile, and how many bits v and w have.
+// The factors of v, w, the flags and the last digits in a profile, and how many values the parts have.
 const V_PLACE: u64 = 1_048_576;
 
 const W_PLACE: u64 = 1_073_741_824;
@@ -42,14 +43,31 @@ const N_PLACE: u64 = 2_199_023_255_552;
 
 const F_PLACE: u64 = 4_398_046_511_104;
 
+const WHOLE_PLACE: u64 = 8_796_093_022_208;
+
+const PART_PLACE: u64 = 9_007_199_254_740_992;
+
 const PLACES: u64 = 1_024;
 
-// Four parts as one profile.
-fn pack_parts(e: u64, v: u64, w: u64, flags: u64) -> u64
-    requires { ⌜ (e < 1_048_576) × (v < 1_024) × (w < 1_024) × (flags < 8) ⌝ }
-    ensures { λ r. ⌜ r ≡ packed e v w flags ⌝ }
+const FLAGS: u64 = 8;
+
+// Every last digit.
+const EACH_DIGIT: u64 = 1_023;
+
+// The parts as one profile.
+fn pack_parts(e: u64, v: u64, w: u64, flags: u64, whole: u64, part: u64) -> u64
+    requires { ⌜ (e < 1_048_576) × (v < 1_024) × (w < 1_024) × (flags < 8) × (whole < 1_024) × (part < 1_024) ⌝ }
+    ensures { λ r. ⌜ r ≡ packed e v w flags whole part ⌝ }
 {
-    ((flags * PLACES + w) * PLACES + v) * V_PLACE + e
+    ((((part * PLACES + whole) * FLAGS + flags) * PLACES + w) * PLACES + v) * V_PLACE + e
+}
+
+// One where the last digit is not asked.
+fn any_digit(e: u64, v: u64, w: u64, flags: u64) -> u64
+    requires { ⌜ (e < 1_048_576) × (v < 1_024) × (w < 1_024) × (flags < 8) ⌝ }
+    ensures { λ r. ⌜ r ≡ packed e v w flags 1_023 1_023 ⌝ }
+{
+    pack_parts(e, v, w, flags, EACH_DIGIT, EACH_DIGIT)
 }
 
 // The profile of the relation j, by its letter.
@@ -67,32 +85,34 @@ fn relation_profile<'a>(
 {
     let o = operand[j];
     if o == 110 {
+        let d = digits::digits_of(operand, modulus, negated, ranges, low, high, j);
         if negated[j] {
-            return pack_parts(EACH_E, EACH_PLACE, EACH_PLACE, N_ASKED);
+            return pack_parts(EACH_E, EACH_PLACE, EACH_PLACE, N_ASKED, d, EACH_DIGIT);
         }
-        return pack_parts(EACH_E, EACH_PLACE, 1, N_ASKED);
+        return pack_parts(EACH_E, EACH_PLACE, 1, N_ASKED, d, EACH_DIGIT);
     }
     if o == 105 {
-        return pack_parts(EACH_E, EACH_PLACE, EACH_PLACE, NEITHER_ASKED);
+        let d = digits::digits_of(operand, modulus, negated, ranges, low, high, j);
+        return pack_parts(EACH_E, EACH_PLACE, EACH_PLACE, NEITHER_ASKED, d, d);
     }
     if o == 102 {
         let zero = values::zero_of(operand, modulus, negated, ranges, low, high, j);
-        return pack_parts(EACH_E, EACH_PLACE, EACH_PLACE, zero + F_ASKED);
+        return any_digit(EACH_E, EACH_PLACE, EACH_PLACE, zero + F_ASKED);
     }
     if o == 116 {
         let zero = values::zero_of(operand, modulus, negated, ranges, low, high, j);
-        return pack_parts(EACH_E, EACH_PLACE, EACH_PLACE, zero + T_ASKED);
+        return any_digit(EACH_E, EACH_PLACE, EACH_PLACE, zero + T_ASKED);
     }
     if o == 118 {
         let v = values::places_of(operand, modulus, negated, ranges, low, high, j);
-        return pack_parts(EACH_E, v, EACH_PLACE, NEITHER_ASKED);
+        return any_digit(EACH_E, v, EACH_PLACE, NEITHER_ASKED);
     }
     if o == 119 {
         let w = values::places_of(operand, modulus, negated, ranges, low, high, j);
-        return pack_parts(EACH_E, EACH_PLACE, w, NEITHER_ASKED);
+        return any_digit(EACH_E, EACH_PLACE, w, NEITHER_ASKED);
     }
     let e = values::exponents_of(operand, modulus, negated, ranges, low, high, j);
-    pack_parts(e, EACH_PLACE, EACH_PLACE, NEITHER_ASKED)
+    any_digit(e, EACH_PLACE, EACH_PLACE, NEITHER_ASKED)
 }
 
 // The profile of the relations from place `from` to before `to`.
@@ -109,7 +129,7 @@ pub fn clause_profile<'a>(
     requires { ⌜ to ≤ 320 ⌝ }
     ensures { λ r. ⌜ r ≡ profileOf (relationsIn (table (now (operand .entry)) (now (modulus .entry)) (now (negated .entry)) (now (ranges .entry)) (now (low .entry)) (now (high .entry))) from to) ⌝ }
 {
-    let mut p = pack_parts(EACH_E, EACH_PLACE, EACH_PLACE, NEITHER_ASKED);
+    let mut p = any_digit(EACH_E, EACH_PLACE, EACH_PLACE, NEITHER_ASKED);
     let mut j = from;
     while j < to {
         p = p & relation_profile(operand, modulus, negated, ranges, low, high, j);
@@ -126,7 +146,7 @@ pub fn within(p: u64, b: Bounds) -> u64
         return p;
     }
     let v = values::between(b);
-    pack_parts(EACH_E, v, EACH_PLACE, NEITHER_ASKED) & p
+    any_digit(EACH_E, v, EACH_PLACE, NEITHER_ASKED) & p
 }
 
 // The least e that is left; past the largest where none is.
@@ -170,4 +190,17 @@ pub fn spares_f(p: u64) -> bool
     ensures { λ r. ⌜ ((c : List Relation) → p ≡ profileOf c → r ≡ not (asksOf 102 c)) ⌝ }
 {
     p / F_PLACE % 2 == 1
+}
+
+// The last digits of i that are left where f is 0, and where it is not, as bits.
+pub fn whole_digits(p: u64) -> u64
+    ensures { λ r. ⌜ r ≡ wholeDigits p ⌝ }
+{
+    p / WHOLE_PLACE % PLACES
+}
+
+pub fn part_digits(p: u64) -> u64
+    ensures { λ r. ⌜ r ≡ partDigits p ⌝ }
+{
+    p / PART_PLACE
 }

@@ -17,7 +17,7 @@ const EXPONENTS: u64 = 15;
 const PLACES: u64 = 10;
 
 // One bit more, of the value `place`, where it is on.
-fn with_bit(mask: u64, place: u64, on: bool) -> u64
+pub fn with_bit(mask: u64, place: u64, on: bool) -> u64
     requires { ⌜ (mask < place) × (place ≤ 32_768) ⌝ }
     ensures { λ r. ⌜ r ≡ mask + bit on * place ⌝ }
 {

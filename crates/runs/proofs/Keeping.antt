@@ -77,7 +77,7 @@ place-second s k n e h = rw (le-ltb k (s .to - s .from) (omega arith), e)
 
 -- ---- all of a stretch
 
-all-snoc : {A : Type 0} (p : A → Bool) (xs : List A) (x : A) → all p (xs ++ (x ∷ [])) ≡ both (all p xs) (p x)
+pub all-snoc : {A : Type 0} (p : A → Bool) (xs : List A) (x : A) → all p (xs ++ (x ∷ [])) ≡ both (all p xs) (p x)
 all-snoc p [] x = alone (p x)
   where
     alone : (b : Bool) → both b true ≡ b

@@ -20,7 +20,7 @@ use clash_laws::Query;
 const MAX_RANGES: usize = 2048;
 
 // Where the ranges of the relation j begin.
-fn start_at(ends: &[usize; 320], j: usize) -> usize
+pub fn start_at(ends: &[usize; 320], j: usize) -> usize
     requires { ⌜ j < 320 ⌝ }
     ensures { λ r. ⌜ r ≡ startAt (now (ends .entry)) j ⌝ }
 {
@@ -31,7 +31,7 @@ fn start_at(ends: &[usize; 320], j: usize) -> usize
 }
 
 // Where they end, within the room for ranges.
-fn stop_at(ends: &[usize; 320], j: usize) -> usize
+pub fn stop_at(ends: &[usize; 320], j: usize) -> usize
     requires { ⌜ j < 320 ⌝ }
     ensures { λ r. ⌜ r ≡ min (getD (now (ends .entry)) j 0) 2048 ⌝ }
 {

@@ -1,10 +1,16 @@
-// A search that starts no lower than a floor: no number below it passes.
+// A search that starts no lower than a floor: no number below it passes; and floors by a profile.
 ghost use mathlib.Core.Path.{_≡_};
 ghost use Rattle.rules.specs.Stretch.{table};
-ghost use Rattle.clash_laws.specs.Floors.{NoneBelow};
+ghost use Prim.Native.Nat.{_^_};
+ghost use lib.Dec.{eqb};
+ghost use Rattle.decimal.specs.Choice.{if_then_else_};
+ghost use Rattle.number.specs.Limits.{maxDigits};
+ghost use Rattle.clash_laws.specs.Floors.{NoneBelow, raised};
 ghost use Rattle.clash_laws.specs.Read.{joinedIn};
 ghost use Rattle.clash_laws.specs.Ready.{leastIn};
+use crate::limits;
 use crate::order;
+use clash_laws::Floors;
 use clash_laws::Query;
 use clash_laws::Span;
 
@@ -31,4 +37,27 @@ pub fn least_from<'a>(
         return hi;
     }
     next_table::least_number(operand, modulus, negated, ranges, low, high, s, q, from, hi)
+}
+
+// A floor of i, or past every i where no last digit is left.
+fn by_digits(digits: u64, floor: u64) -> u64
+    ensures { λ r. ⌜ r ≡ (if eqb digits 0 then 10 ^ maxDigits else floor) ⌝ }
+{
+    if digits == 0 {
+        return limits::INTEGER_LIMIT;
+    }
+    floor
+}
+
+// The floors, raised by the profile p.
+pub fn raise(p: u64, l: Floors) -> Floors
+    ensures { λ r. ⌜ r ≡ raised p l ⌝ }
+{
+    let whole = by_digits(profile::whole_digits(p), l.whole);
+    let part = by_digits(profile::part_digits(p), l.part);
+    Floors {
+        whole: whole,
+        part: part,
+        tail: l.tail,
+    }
 }

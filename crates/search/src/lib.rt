@@ -31,8 +31,8 @@ use clash_laws::Floors;
 use clash_laws::Span;
 
 // The least admitted number that meets the relations of both stretches and whose v is within the
-// bounds; order::nowhere() where there is none. p is the relations' profile; the floors spare the search
-// what lies below them.
+// bounds; order::nowhere() where there is none. p is the relations' profile; the floors, and the profile's last
+// digits, spare the search what lies below them.
 pub fn least_admitted<'a>(
     operand: &'a [u8; 320],
     modulus: &'a [u32; 320],
@@ -58,7 +58,7 @@ pub fn least_admitted<'a>(
         s,
         b,
         profile::within(p, b),
-        l,
+        floor::raise(p, l),
     )
 }
 

@@ -16,11 +16,11 @@ Inv-loop operand modulus negated ranges low high from to p₀ j₀ p j = (from �
 abbrev μ-loop : tie.MeasureT-loop
 μ-loop operand modulus negated ranges low high from to p₀ j₀ p j = to - j
 
-pack-parts-requires : tie.Need-pack-parts-requires Inv-loop μ-loop
-pack-parts-requires c κs = search needs
+any-digit-requires : tie.Need-any-digit-requires Inv-loop μ-loop
+any-digit-requires c κs = search needs
 
 loop-holds : tie.Need-loop-holds Inv-loop μ-loop
-loop-holds c = let a = c .before .args in let T = table (a .operand .now) (a .modulus .now) (a .negated .now) (a .ranges .now) (a .low .now) (a .high .now) in (omega arith, inr refl, met-none T (a .from) (a .from) _ refl (c .pack-parts .ensures))
+loop-holds c = let a = c .before .args in let T = table (a .operand .now) (a .modulus .now) (a .negated .now) (a .ranges .now) (a .low .now) (a .high .now) in (omega arith, inr refl, met-none T (a .from) (a .from) _ refl (c .any-digit .ensures))
 
 relation-profile-requires : tie.Need-relation-profile-requires Inv-loop μ-loop
 relation-profile-requires c κs = omega (arith, c .before .before .before .pre, c .loop-test .taken)
@@ -43,7 +43,7 @@ clause-profile-spec =
     (tie.spec
     Inv-loop
     μ-loop
-    pack-parts-requires
+    any-digit-requires
     loop-holds
     relation-profile-requires
     add-j

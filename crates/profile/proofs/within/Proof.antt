@@ -17,12 +17,12 @@ returns c = let f = c .before .is-free .ensures (c .if1 .taken) in λ d e. unbou
 between-requires : tie.Need-between-requires
 between-requires c κs = search needs
 
-pack-parts-requires : tie.Need-pack-parts-requires
-pack-parts-requires c κs = let z = c .between .ensures .1 in (omega arith, omega arith, omega arith, omega arith)
+any-digit-requires : tie.Need-any-digit-requires
+any-digit-requires c κs = let z = c .between .ensures .1 in (omega arith, omega arith, omega arith, omega arith)
 
 returns-2 : tie.Need-returns-2
-returns-2 c = λ d e. bounded-profile (c .before .before .before .before .args .b) d (c .before .between .result) (c .before .before .before .before .args .p) _ (c .before .between .ensures .0) e (ap (λ (x : ℕ). bitAnd x (c .before .before .before .before .args .p)) (c .pack-parts .ensures))
+returns-2 c = λ d e. bounded-profile (c .before .before .before .before .args .b) d (c .before .between .result) (c .before .before .before .before .args .p) _ (c .before .between .ensures .0) e (ap (λ (x : ℕ). bitAnd x (c .before .before .before .before .args .p)) (c .any-digit .ensures))
 
 pub within-spec : {M : Type 1} → statement M
 within-spec =
-    tie.close (tie.spec is-free-requires returns between-requires pack-parts-requires returns-2)
+    tie.close (tie.spec is-free-requires returns between-requires any-digit-requires returns-2)

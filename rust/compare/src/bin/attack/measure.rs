@@ -6,6 +6,9 @@ use std::fmt;
 use std::hint::black_box;
 use std::time::{Duration, Instant};
 
+/// Calls that are timed however long they take: a machine may pause during one.
+const LEAST: u32 = 3;
+
 /// How many calls are timed, unless they take longer than this.
 #[derive(Clone, Copy)]
 pub struct Effort {
@@ -64,14 +67,14 @@ pub fn measure(text: Vec<u8>, effort: Effort) -> Measured {
     let (mut plain, mut proved) = (Duration::MAX, Duration::MAX);
     let mut number = 0;
     let since = Instant::now();
-    for _ in 0..effort.calls {
+    for done in 1..=effort.calls {
         plain = plain.min(timed(|| {
             black_box(plain::check(black_box(&text))).ok();
         }));
         proved = proved.min(timed(|| {
             number = raw::check(black_box(&text), black_box(&mut figures));
         }));
-        if since.elapsed() > effort.time {
+        if done >= LEAST && since.elapsed() > effort.time {
             break;
         }
     }
