@@ -86,18 +86,18 @@ if-size true g = omega arith
 if-size false g = omega arith
 
 -- at most four bytes of a digit, and four of the symbol behind it
-grouped-size : (zero : ℕ) (g : List ℕ) (p q : ℕ) (d : List ℕ) → length g ≤ 4 → length (grouped zero g p q d) ≤ 8 * length d
-grouped-size zero g p q [] h = omega arith
-grouped-size zero g p q (x ∷ d) h =
+grouped-size : (digit : ℕ) (g : List ℕ) (p q : ℕ) (d : List ℕ) → length g ≤ 4 → length (grouped digit g p q d) ≤ 8 * length d
+grouped-size digit g p q [] h = omega arith
+grouped-size digit g p q (x ∷ d) h =
     let m = if mark p q (length d) then g else [] in
-    let r = grouped zero g p q d in
+    let r = grouped digit g p q d in
     omega (
       arith,
-      length-append (spell zero x) (m ++ r),
+      length-append (spell digit x) (m ++ r),
       length-append m r,
-      spell-four zero x,
+      spell-four digit x,
       if-size (mark p q (length d)) g,
-      grouped-size zero g p q d h,
+      grouped-size digit g p q d h,
     )
 
 whole-size : (least n : ℕ) (d : List ℕ) → length (wholeDigits least n d) ≤ length d
