@@ -5,6 +5,7 @@ use mathlib.Core.List.{List, [], _∷_}
 use Prim.Native.Nat.{ℕ}
 use Rattle.rules.specs.Syntax.{Rule}
 use Rattle.symbols.specs.Kinds.{kindOf}
+use Rattle.layout.specs.Layout.{spell}
 use Rattle.grammar.specs.Reader.{readPack}
 use Rattle.grammar.specs.Reader.PackAnswer.{Rules}
 use Rattle.clash_laws.specs.Check.{checkOf}
@@ -43,6 +44,6 @@ seven : checkPack sevenPack ≡ checkedBy (clash 1 2 0 0 1000007 0)
 seven = by-rules sevenPack packSeven (clash 1 2 0 0 1000007 0) seven-read row-seven
 
 pub card : All rows
-unfolding kindOf
+unfolding kindOf spell
 card =
     (refl, (refl, (refl, (refl, (few, (tens, (trailing, (seven, (refl, (refl, (refl, (refl, (refl, (refl, tt))))))))))))))

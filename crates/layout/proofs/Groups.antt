@@ -11,7 +11,7 @@ use lib.Arith.{digits-mod}
 use lib.Dec.{ltb, eqb}
 use lib.ListN.{length}
 use Rattle.decimal.proofs.Choices.{tested, not-both}
-use Rattle.layout.specs.Layout.{mark, grouped}
+use Rattle.layout.specs.Layout.{spell, spelled, mark, grouped}
 use Rattle.layout.specs.Claims.{GroupEnds}
 
 -- behind a digit with `left` digits to come a symbol stands exactly where a group ends
@@ -40,17 +40,18 @@ mark-complete p q left h g =
 mark-few : (p q r : ℕ) → r < p → mark p q r ≡ false
 mark-few p q r h = tested (eqb p 0) (λ a. rw a) (λ a. rw (a, lt-ltb r p h))
 
-pub grouped-few : (g : List ℕ) (p q : ℕ) (d : List ℕ) → length d ≤ p → grouped g p q d ≡ d
-grouped-few g p q [] h = refl
-grouped-few g p q (b ∷ d) h = rw (mark-few p q (length d) h) (ap (λ (l : List ℕ). b ∷ l) (grouped-few g p q d (omega arith)))
+pub grouped-few : (zero : ℕ) (g : List ℕ) (p q : ℕ) (d : List ℕ) → length d ≤ p → grouped zero g p q d ≡ spelled zero d
+grouped-few zero g p q [] h = refl
+grouped-few zero g p q (b ∷ d) h = rw (mark-few p q (length d) h) (ap (λ (l : List ℕ). spell zero b ++ l) (grouped-few zero g p q d (omega arith)))
 
 -- with no comma there are no groups
-pub grouped-none : (g : List ℕ) (q : ℕ) (d : List ℕ) → grouped g 0 q d ≡ d
-grouped-none g q [] = refl
-grouped-none g q (b ∷ d) = ap (λ (l : List ℕ). b ∷ l) (grouped-none g q d)
+pub grouped-none : (zero : ℕ) (g : List ℕ) (q : ℕ) (d : List ℕ) → grouped zero g 0 q d ≡ spelled zero d
+grouped-none zero g q [] = refl
+grouped-none zero g q (b ∷ d) = ap (λ (l : List ℕ). spell zero b ++ l) (grouped-none zero g q d)
 
 -- the last group: a symbol, and the primary group's digits behind it
-pub grouped-last : (g : List ℕ) (p q b : ℕ) (d : List ℕ) → 0 < p → 0 < q → length d ≡ p → grouped g p q (b ∷ d) ≡ b ∷ (g ++ d)
-grouped-last g p q b d hp hq e =
+pub grouped-last : (zero : ℕ) (g : List ℕ) (p q b : ℕ) (d : List ℕ) → 0 < p → 0 < q → length d ≡ p
+    → grouped zero g p q (b ∷ d) ≡ spell zero b ++ (g ++ spelled zero d)
+grouped-last zero g p q b d hp hq e =
     let m : mark p q (length d) ≡ true = mark-complete p q (length d) hq (record { some = hp; groups = 0; to-come = omega arith }) in
-    rw m (ap (λ (l : List ℕ). b ∷ (g ++ l)) (grouped-few g p q d (omega arith)))
+    rw m (ap (λ (l : List ℕ). spell zero b ++ (g ++ l)) (grouped-few zero g p q d (omega arith)))

@@ -2,3 +2,4 @@ pub mod Writing
 pub mod Shown
 pub mod Groups
 pub mod Plain
+pub mod Spelling

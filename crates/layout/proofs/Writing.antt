@@ -1,7 +1,7 @@
 -- Laws of a text that is written piece by piece: affixes item by item, digits with group symbols among them.
 use mathlib.Core.Path.{_≡_, refl, ap}
 use mathlib.Core.Bool.{Bool}
-use mathlib.Core.List.{List, [], _++_}
+use mathlib.Core.List.{List, [], _++_, append-assoc}
 use Prim.Native.Nat.{ℕ, suc, _+_, _-_, _%_, _≤_, _<_, min, max}
 use native.Mathlib.Omega.{arith}
 use native.Mathlib.Numerals.{add-one}
@@ -20,7 +20,7 @@ use Rattle.symbols.specs.declared.Symbol.{Symbol}
 use Rattle.symbols.specs.declared.Symbol.the-variants.{Decimal, Group}
 use Rattle.pattern.specs.declared.Span.{Span}
 use Rattle.pattern.specs.declared.Pattern.{Pattern}
-use Rattle.layout.specs.Layout.{wholeDigits, fractionDigits, spell, mark, grouped, body}
+use Rattle.layout.specs.Layout.{wholeDigits, fractionDigits, zeroDigit, spell, mark, grouped, body}
 use Rattle.layout.specs.Text.{render, rendered, affixText, numberText}
 
 -- nothing is written
@@ -45,15 +45,15 @@ module _ (symbol : Symbol → List ℕ) (s : List ℕ) (i : ℕ) (q n : Bool) (h
 -- ---- groups
 
 -- one place: a digit, and a group symbol where one stands behind it
-abbrev pub place : List ℕ → ℕ → ℕ → List ℕ → ℕ → List ℕ
-place g p q d i = spell (getD d i 0) ++ (if mark p q (length d - (i + 1)) then g else [])
+abbrev pub place : ℕ → List ℕ → ℕ → ℕ → List ℕ → ℕ → List ℕ
+place zero g p q d i = spell zero (getD d i 0) ++ (if mark p q (length d - (i + 1)) then g else [])
 
-pub grouped-step : (g : List ℕ) (p q : ℕ) (d : List ℕ) (i : ℕ) → i < length d
-    → grouped g p q (drop i d) ≡ place g p q d i ++ grouped g p q (drop (i + 1) d)
-grouped-step g p q d i h = rw (drop-cons d i 0 h, length-drop (suc i) d, add-one)
+pub grouped-step : (zero : ℕ) (g : List ℕ) (p q : ℕ) (d : List ℕ) (i : ℕ) → i < length d
+    → grouped zero g p q (drop i d) ≡ place zero g p q d i ++ grouped zero g p q (drop (i + 1) d)
+grouped-step zero g p q d i h = rw (drop-cons d i 0 h, length-drop (suc i) d, add-one, append-assoc)
 
-pub grouped-end : (g : List ℕ) (p q : ℕ) (d : List ℕ) (i : ℕ) → length d ≤ i → grouped g p q (drop i d) ≡ []
-grouped-end g p q d i h = rw (drop-of-length-le d h)
+pub grouped-end : (zero : ℕ) (g : List ℕ) (p q : ℕ) (d : List ℕ) (i : ℕ) → length d ≤ i → grouped zero g p q (drop i d) ≡ []
+grouped-end zero g p q d i h = rw (drop-of-length-le d h)
 
 -- with no secondary size a symbol stands before the primary group alone
 pub mark-zero : (left primary secondary : ℕ) → secondary ≡ 0 → eqb (left - primary) 0 ≡ eqb ((left - primary) % secondary) 0
@@ -76,7 +76,7 @@ fraction-is least most′ d s n z m en es ez em =
 -- the parts under the definition's names
 pub number-is : (symbol : Symbol → List ℕ) (p : Pattern) (d group point whole fraction : List ℕ) → group ≡ symbol Group → point ≡ symbol Decimal
     → whole ≡ wholeDigits (p .least) (p .most) d → fraction ≡ fractionDigits (p .fraction) (p .most) d
-    → body point group (p .primary) (p .secondary) whole fraction ≡ numberText symbol p d
+    → body zeroDigit point group (p .primary) (p .secondary) whole fraction ≡ numberText symbol p d
 number-is symbol p d group point whole fraction eg ep ew ef = rw (eg, ep, ew, ef)
 
 pub part-is : (symbol : Symbol → List ℕ) (s : List ℕ) (p : Span) (x y : List ℕ) → x ≡ drop (p .start) s → y ≡ take (p .len) x → rendered symbol (items y) ≡ affixText symbol s p

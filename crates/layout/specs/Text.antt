@@ -20,7 +20,7 @@ use Rattle.number.specs.declared.Number.{Number}
 use Rattle.rounding.specs.Nearest.{unitsOf}
 use Rattle.rounding.specs.Limits.{width}
 use Rattle.layout.specs.declared.Affixes.{Affixes}
-use Rattle.layout.specs.Layout.{wholeDigits, fractionDigits, body}
+use Rattle.layout.specs.Layout.{wholeDigits, fractionDigits, zeroDigit, body}
 
 -- ---- affixes
 
@@ -67,7 +67,7 @@ digitsOf p n = figures width (unitsOf (p .step) (p .factor) (p .most) (n .i) (n 
 
 abbrev pub numberText : (Symbol → List ℕ) → Pattern → List ℕ → List ℕ
 numberText symbol p d =
-    body (symbol Decimal) (symbol Group) (p .primary) (p .secondary) (wholeDigits (p .least) (p .most) d) (fractionDigits (p .fraction) (p .most) d)
+    body zeroDigit (symbol Decimal) (symbol Group) (p .primary) (p .secondary) (wholeDigits (p .least) (p .most) d) (fractionDigits (p .fraction) (p .most) d)
 
 abbrev pub laidOut : (Symbol → List ℕ) → List ℕ → Pattern → Affixes → List ℕ → List ℕ
 laidOut symbol s p a d =

@@ -11,7 +11,7 @@ ghost use Rattle.decimal.specs.Choice.{if_then_else_};
 ghost use Rattle.area.specs.Area.{Wrote};
 ghost use Rattle.lexer.specs.Items.{items};
 ghost use Rattle.symbols.specs.Entries.{symbolIn, standardRecord};
-ghost use Rattle.layout.specs.Layout.{wholeDigits, fractionDigits, spell, mark, grouped, pointed};
+ghost use Rattle.layout.specs.Layout.{wholeDigits, fractionDigits, zeroDigit, spell, mark, grouped, pointed};
 ghost use Rattle.layout.specs.Plain.{isPlain, plain};
 ghost use Rattle.layout.specs.Text.{symbolOf, render, rendered, affixText, negativeAffixes, affixesOf, numberText, laidOut};
 use lexer::Item;
@@ -185,9 +185,9 @@ fn is_marked(primary: usize, secondary: usize, left: usize) -> bool
     (left - primary) % secondary == 0
 }
 
-// How a digit is spelled.
+// How a digit is spelled: as the byte that it is, while digit zero is ASCII's.
 fn append_digit(out: &mut [u8], at: usize, b: u8) -> usize
-    ensures { λ r. ⌜ Wrote (now (out .entry)) at (spell b) (now (out .exit)) r ⌝ }
+    ensures { λ r. ⌜ Wrote (now (out .entry)) at (spell zeroDigit b) (now (out .exit)) r ⌝ }
 {
     area::put(out, at, b)
 }
@@ -201,7 +201,7 @@ fn append_digits(
     secondary: usize,
     d: &[u8],
 ) -> usize
-    ensures { λ r. ⌜ Wrote (now (out .entry)) at (grouped (now (group .entry)) primary secondary (now (d .entry))) (now (out .exit)) r ⌝ }
+    ensures { λ r. ⌜ Wrote (now (out .entry)) at (grouped zeroDigit (now (group .entry)) primary secondary (now (d .entry))) (now (out .exit)) r ⌝ }
 {
     let mut k = at;
     let mut i = 0;
@@ -215,7 +215,7 @@ fn append_digits(
 
 // The decimal symbol and the fraction's digits, or nothing.
 fn append_fraction(out: &mut [u8], at: usize, point: &[u8], fraction: &[u8]) -> usize
-    ensures { λ r. ⌜ Wrote (now (out .entry)) at (pointed (now (point .entry)) (now (fraction .entry))) (now (out .exit)) r ⌝ }
+    ensures { λ r. ⌜ Wrote (now (out .entry)) at (pointed zeroDigit (now (point .entry)) (now (fraction .entry))) (now (out .exit)) r ⌝ }
 {
     let k = append_if(out, at, 0 < fraction.len(), point);
     append_digits(out, k, b"", 0, 0, fraction)

@@ -20,7 +20,8 @@ use Rattle.symbols.specs.Entries.{bodyFits}
 use Rattle.pattern.specs.declared.Span.{Span}
 use Rattle.pattern.specs.declared.Pattern.{Pattern}
 use Rattle.layout.specs.declared.Affixes.{Affixes}
-use Rattle.layout.specs.Layout.{wholeDigits, fractionDigits, spell, mark, grouped}
+use Rattle.layout.specs.Layout.{wholeDigits, fractionDigits, zeroDigit, spell, mark, grouped}
+use Rattle.layout.proofs.Spelling.{spell-four}
 use Rattle.layout.specs.Text.{symbolOf, render, rendered, partOf, affixText, laidOut}
 
 -- ---- a code point has at most four bytes
@@ -84,11 +85,20 @@ if-size : (b : Bool) (g : List ℕ) → length (if b then g else []) ≤ length 
 if-size true g = omega arith
 if-size false g = omega arith
 
-grouped-size : (g : List ℕ) (p q : ℕ) (d : List ℕ) → length g ≤ 4 → length (grouped g p q d) ≤ 5 * length d
-grouped-size g p q [] h = omega arith
-grouped-size g p q (x ∷ d) h =
+-- at most four bytes of a digit, and four of the symbol behind it
+grouped-size : (digit : ℕ) (g : List ℕ) (p q : ℕ) (d : List ℕ) → length g ≤ 4 → length (grouped digit g p q d) ≤ 8 * length d
+grouped-size digit g p q [] h = omega arith
+grouped-size digit g p q (x ∷ d) h =
     let m = if mark p q (length d) then g else [] in
-    omega (arith, length-append (spell x ++ m) (grouped g p q d), length-append (spell x) m, if-size (mark p q (length d)) g, grouped-size g p q d h)
+    let r = grouped digit g p q d in
+    omega (
+      arith,
+      length-append (spell digit x) (m ++ r),
+      length-append m r,
+      spell-four digit x,
+      if-size (mark p q (length d)) g,
+      grouped-size digit g p q d h,
+    )
 
 whole-size : (least n : ℕ) (d : List ℕ) → length (wholeDigits least n d) ≤ length d
 whole-size least n d =
@@ -101,14 +111,14 @@ fraction-size least n d =
     omega (arith, length-take (max least (length (trim s))) s, length-drop (length d - n) d)
 
 pub text-size : (symbol : Symbol → List ℕ) (s : List ℕ) (p : Pattern) (a : Affixes) (d : List ℕ) → ((y : Symbol) → length (symbol y) ≤ 4)
-    → length (laidOut symbol s p a d) ≤ 8 + 8 * length s + 10 * length d
+    → length (laidOut symbol s p a d) ≤ 8 + 8 * length s + 16 * length d
 text-size symbol s p a d four =
     let m = if a .minus then symbol Minus else [] in
     let w = wholeDigits (p .least) (p .most) d in
     let f = fractionDigits (p .fraction) (p .most) d in
-    let i = grouped (symbol Group) (p .primary) (p .secondary) w in
+    let i = grouped zeroDigit (symbol Group) (p .primary) (p .secondary) w in
     let point = if ltb 0 (length f) then symbol Decimal else [] in
-    let g = grouped [] 0 0 f in
+    let g = grouped zeroDigit [] 0 0 f in
     let x = affixText symbol s (a .prefix) in
     let y = affixText symbol s (a .suffix) in
     let n = i ++ (point ++ g) in
@@ -123,8 +133,8 @@ text-size symbol s p a d four =
       four Minus,
       if-size (ltb 0 (length f)) (symbol Decimal),
       four Decimal,
-      grouped-size (symbol Group) (p .primary) (p .secondary) w (four Group),
-      grouped-size [] 0 0 f (omega arith),
+      grouped-size zeroDigit (symbol Group) (p .primary) (p .secondary) w (four Group),
+      grouped-size zeroDigit [] 0 0 f (omega arith),
       whole-size (p .least) (p .most) d,
       fraction-size (p .fraction) (p .most) d,
       affix-size symbol four s (a .prefix),

@@ -28,7 +28,7 @@ use Rattle.rounding.specs.Limits.{width}
 use Rattle.rounding.proofs.Nearest.{units-permitted, permitted-only}
 use Rattle.rounding.proofs.Arithmetic.{within-fits, units-room, value-room}
 use Rattle.layout.specs.declared.Affixes.{Affixes}
-use Rattle.layout.specs.Layout.{wholeDigits, fractionDigits, mark, grouped}
+use Rattle.layout.specs.Layout.{wholeDigits, fractionDigits, zeroDigit, spell, spelled, mark, grouped}
 use Rattle.layout.specs.Text.{affixText, negativeAffixes, affixesOf, digitsOf, textOf}
 use Rattle.layout.specs.Claims.{ShownDigits}
 use Rattle.layout.proofs.Shown.{digits-shown, shown-only}
@@ -41,22 +41,22 @@ use Rattle.print.proofs.Affixes.{affix-text}
 
 -- ---- groups
 
-module _ (group : List ℕ) (p q : ℕ) (some : 0 < p → 0 < q) where
-  groups-are : {d t : List ℕ} → Grouped group p q d t → t ≡ grouped group p q d
+module _ (zero : ℕ) (group : List ℕ) (p q : ℕ) (some : 0 < p → 0 < q) where
+  groups-are : {d t : List ℕ} → Grouped zero group p q d t → t ≡ grouped zero group p q d
   groups-are none = refl
   groups-are (plain {d} {ds} {t} f g) =
-      tested (mark p q (length ds)) (λ k. absurd (f (mark-sound p q (length ds) k))) (λ k. rw k (ap (λ (l : List ℕ). d ∷ l) (groups-are g)))
+      tested (mark p q (length ds)) (λ k. absurd (f (mark-sound p q (length ds) k))) (λ k. rw k (ap (λ (l : List ℕ). spell zero d ++ l) (groups-are g)))
   groups-are (ended {d} {ds} {t} e g) =
-      rw (mark-complete p q (length ds) (some (e .some)) e) (ap (λ (l : List ℕ). d ∷ (group ++ l)) (groups-are g))
+      rw (mark-complete p q (length ds) (some (e .some)) e) (ap (λ (l : List ℕ). spell zero d ++ (group ++ l)) (groups-are g))
 
-  groups-made : (d : List ℕ) → Grouped group p q d (grouped group p q d)
+  groups-made : (d : List ℕ) → Grouped zero group p q d (grouped zero group p q d)
   groups-made [] = none
   groups-made (b ∷ d) =
       tested (mark p q (length d)) (λ k. rw k (ended (mark-sound p q (length d) k) (groups-made d)))
       (λ k. rw k (plain (λ e. not-both (mark-complete p q (length d) (some (e .some)) e) k) (groups-made d)))
 
-  pub grouped-text : (d t : List ℕ) → Grouped group p q d t ↔ (t ≡ grouped group p q d)
-  grouped-text d t = (groups-are, λ e. subst (Grouped group p q d) (sym e) (groups-made d))
+  pub grouped-text : (d t : List ℕ) → Grouped zero group p q d t ↔ (t ≡ grouped zero group p q d)
+  grouped-text d t = (groups-are, λ e. subst (Grouped zero group p q d) (sym e) (groups-made d))
 
 -- ---- what stands around the digits
 
@@ -97,9 +97,9 @@ module _ (symbol : Symbol → List ℕ) (s : List ℕ) where
 -- ---- the text
 
 -- its parts, in the order of the relation
-laid-out : (sign prefix integer point fraction suffix : List ℕ)
-    → sign ++ (prefix ++ ((integer ++ (point ++ grouped [] 0 0 fraction)) ++ suffix)) ≡ sign ++ (prefix ++ (integer ++ (point ++ (fraction ++ suffix))))
-laid-out sign prefix integer point fraction suffix = rw (grouped-none [] 0 fraction) (simp append-assoc)
+laid-out : (zero : ℕ) (sign prefix integer point fraction suffix : List ℕ)
+    → sign ++ (prefix ++ ((integer ++ (point ++ grouped zero [] 0 0 fraction)) ++ suffix)) ≡ sign ++ (prefix ++ (integer ++ (point ++ (spelled zero fraction ++ suffix))))
+laid-out zero sign prefix integer point fraction suffix = rw (grouped-none zero [] 0 fraction) (simp append-assoc)
 
 -- the printed value, in units of the last fraction place
 abbrev unitsIn : Pattern → Number → ℕ
@@ -126,7 +126,7 @@ module _ (s t : List ℕ) (p : Pattern) (n : Number) (ep : readPattern s ≡ Pat
         let a = affixesOf p (n .negative) in
         let w = wholeDigits (p .least) (p .most) (digitsOf p n) in
         let f = fractionDigits (p .fraction) (p .most) (digitsOf p n) in
-        let i = grouped (symbol Group) (p .primary) (p .secondary) w in
+        let i = grouped zeroDigit (symbol Group) (p .primary) (p .secondary) w in
         record {
           units = unitsIn p n;
           permitted = units-permitted (p .step) (p .factor) (p .most) (n .i) (n .v .0) (n .f .0) (b .step-least);
@@ -134,12 +134,12 @@ module _ (s t : List ℕ) (p : Pattern) (n : Number) (ep : readPattern s ≡ Pat
           fraction = f;
           shown = digits-are-shown;
           integer = i;
-          is-grouped = grouped-text (symbol Group) (p .primary) (p .secondary) (b .secondary-least) w i .1 refl;
+          is-grouped = grouped-text zeroDigit (symbol Group) (p .primary) (p .secondary) (b .secondary-least) w i .1 refl;
           sign = signOf symbol s a;
           prefix = affixText symbol s (a .prefix);
           suffix = affixText symbol s (a .suffix);
           around = around-made symbol s p (pattern-clean s p ep) (n .negative);
-          is-text = laid-out (signOf symbol s a) (affixText symbol s (a .prefix)) i (pointBefore (symbol Decimal) f) f (affixText symbol s (a .suffix));
+          is-text = laid-out zeroDigit (signOf symbol s a) (affixText symbol s (a .prefix)) i (pointBefore (symbol Decimal) f) f (affixText symbol s (a .suffix));
         }
 
     text-only : {text : List ℕ} → PrintedText symbol s p n text → text ≡ textOf symbol s p n
@@ -148,18 +148,18 @@ module _ (s t : List ℕ) (p : Pattern) (n : Number) (ep : readPattern s ≡ Pat
         let a = affixesOf p (n .negative) in
         let w = wholeDigits (p .least) (p .most) (digitsOf p n) in
         let f = fractionDigits (p .fraction) (p .most) (digitsOf p n) in
-        let i = grouped (symbol Group) (p .primary) (p .secondary) w in
+        let i = grouped zeroDigit (symbol Group) (p .primary) (p .secondary) w in
         let u : x .units ≡ unitsIn p n =
         permitted-only (p .step) (p .factor) (p .most) (n .i) (n .v .0) (n .f .0) (x .units) (unitsIn p n) (b .step-least)
         (x .permitted) (units-permitted (p .step) (p .factor) (p .most) (n .i) (n .v .0) (n .f .0) (b .step-least)) in
         let d = shown-only (rw u at (x .shown)) digits-are-shown in
         let g : x .integer ≡ i =
-        grouped-text (symbol Group) (p .primary) (p .secondary) (b .secondary-least) (x .whole) (x .integer) .0 (x .is-grouped)
-        ∙ ap (grouped (symbol Group) (p .primary) (p .secondary)) (d .0) in
+        grouped-text zeroDigit (symbol Group) (p .primary) (p .secondary) (b .secondary-least) (x .whole) (x .integer) .0 (x .is-grouped)
+        ∙ ap (grouped zeroDigit (symbol Group) (p .primary) (p .secondary)) (d .0) in
         let r = around-are symbol s (pattern-clean s p ep) (x .around) in
         x .is-text
         ∙ (rw (r .0, r .1, r .2, g, d .1)
-        (sym (laid-out (signOf symbol s a) (affixText symbol s (a .prefix)) i (pointBefore (symbol Decimal) f) f (affixText symbol s (a .suffix)))))
+        (sym (laid-out zeroDigit (signOf symbol s a) (affixText symbol s (a .prefix)) i (pointBefore (symbol Decimal) f) f (affixText symbol s (a .suffix)))))
 
     -- of a pattern and a number that are read, the text of the definition is a printed text, and there is no other
     pub printed-text : (text : List ℕ) → PrintedText symbol s p n text ↔ (text ≡ textOf symbol s p n)

@@ -17,6 +17,7 @@ use Rattle.pattern.specs.declared.Pattern.{Pattern}
 use Rattle.pattern_grammar.specs.Grammar.{isBare}
 use Rattle.pattern_grammar.specs.Texts.{textAt}
 use Rattle.rounding.specs.Nearest.{Permitted}
+use Rattle.layout.specs.Layout.{zeroDigit, spell, spelled}
 use Rattle.layout.specs.Claims.{ShownDigits, GroupEnds}
 
 -- ---- affixes
@@ -58,14 +59,14 @@ pub data Around (symbol : Symbol → List ℕ) (s : List ℕ) (p : Pattern) : Bo
 
 -- ---- digits
 
--- integer digits with group symbols among them: one behind a digit exactly where a group ends, that is, where as many digits are to come as the primary
+-- integer digits, spelled by digit zero, with group symbols among them: one behind a digit exactly where a group ends, that is, where as many digits are to come as the primary
 -- group has, or that many and some whole secondary groups
-pub data Grouped (group : List ℕ) (primary secondary : ℕ) : List ℕ → List ℕ → Type 0 where
-  none : Grouped group primary secondary [] []
-  plain : {d : ℕ} {ds t : List ℕ} → (GroupEnds primary secondary (length ds) → ⊥) → Grouped group primary secondary ds t
-      → Grouped group primary secondary (d ∷ ds) (d ∷ t)
-  ended : {d : ℕ} {ds t : List ℕ} → GroupEnds primary secondary (length ds) → Grouped group primary secondary ds t
-      → Grouped group primary secondary (d ∷ ds) (d ∷ (group ++ t))
+pub data Grouped (zero : ℕ) (group : List ℕ) (primary secondary : ℕ) : List ℕ → List ℕ → Type 0 where
+  none : Grouped zero group primary secondary [] []
+  plain : {d : ℕ} {ds t : List ℕ} → (GroupEnds primary secondary (length ds) → ⊥) → Grouped zero group primary secondary ds t
+      → Grouped zero group primary secondary (d ∷ ds) (spell zero d ++ t)
+  ended : {d : ℕ} {ds t : List ℕ} → GroupEnds primary secondary (length ds) → Grouped zero group primary secondary ds t
+      → Grouped zero group primary secondary (d ∷ ds) (spell zero d ++ (group ++ t))
 
 -- "The decimal symbol prints when a fraction digit does."
 abbrev pub pointBefore : List ℕ → List ℕ → List ℕ
@@ -83,10 +84,10 @@ pub record PrintedText (symbol : Symbol → List ℕ) (s : List ℕ) (p : Patter
   pub shown : ShownDigits (p .least) (p .fraction) (p .most) units whole fraction
   -- the integer digits in groups
   pub integer : List ℕ
-  pub is-grouped : Grouped (symbol Group) (p .primary) (p .secondary) whole integer
+  pub is-grouped : Grouped zeroDigit (symbol Group) (p .primary) (p .secondary) whole integer
   -- what stands around them
   pub sign : List ℕ
   pub prefix : List ℕ
   pub suffix : List ℕ
   pub around : Around symbol s p (n .negative) sign prefix suffix
-  pub is-text : text ≡ sign ++ (prefix ++ (integer ++ (pointBefore (symbol Decimal) fraction ++ (fraction ++ suffix))))
+  pub is-text : text ≡ sign ++ (prefix ++ (integer ++ (pointBefore (symbol Decimal) fraction ++ (spelled zeroDigit fraction ++ suffix))))

@@ -1,14 +1,20 @@
--- Laws of kind bytes: a byte of known halves, and every other byte.
-use mathlib.Core.Path.{_≡_, refl}
+-- Laws of kind bytes: a byte of known halves, and every other byte; the halves of a known kind.
+use mathlib.Core.Path.{_≡_, refl, sym, ap, _∙_}
 use mathlib.Core.Bool.{true, false}
-use Prim.Native.Nat.{ℕ, _/_, _%_, _≤_, _<_}
+use mathlib.Core.List.{List, [], _∷_}
+use Prim.Native.Nat.{ℕ, suc, _+_, _*_, _/_, _%_, _≤_, _<_}
 use native.Mathlib.Omega.{arith}
-use borrow.Author.Tests.{ne-eqb, lt-ltb, le-ltb, ltb-true, ltb-false}
-use lib.Dec.{ltb}
+use borrow.Author.Tests.{ne-eqb, eqb-true, lt-ltb, le-ltb, ltb-true, ltb-false}
+use lib.Dec.{eqb, ltb}
+use lib.ListN.{length, getD}
 use Rattle.decimal.specs.Choice.{if_then_else_}
-use Rattle.decimal.proofs.Choices.{tested, not-both}
-use Rattle.symbols.specs.declared.Kind.the-variants.{Unknown}
-use Rattle.symbols.specs.Kinds.{isLength, kindWith, kindOf}
+use Rattle.decimal.proofs.Choices.{tested, never, not-both}
+use Rattle.records.specs.Entries.{noHead, fitting, headIn}
+use Rattle.records.proofs.Walks.{head-unknown}
+use Rattle.symbols.specs.declared.Symbol.{Symbol}
+use Rattle.symbols.specs.declared.Symbol.the-variants.{Decimal, Group, Minus, Plus, Percent, Permille}
+use Rattle.symbols.specs.declared.Kind.the-variants.{Unknown, Known}
+use Rattle.symbols.specs.Kinds.{upperOf, isLength, kindWith, kindOf, nameOf, lengthOf}
 
 pub length-is : (n : ℕ) → 1 ≤ n → n < 5 → isLength n ≡ true
 length-is n h k = rw (le-ltb n 1 h, lt-ltb n 5 k)
@@ -50,3 +56,60 @@ unknown b h = tested (isLength (b % 16)) yes no
 
     no : isLength (b % 16) ≡ false → (if isLength (b % 16) then kindWith (b / 16) (b % 16) else Unknown) ≡ Unknown
     no e = rw e
+
+-- ---- the halves of a byte of a known kind
+
+pub record Byte (b : ℕ) (y : Symbol) (n : ℕ) : Type 0 where
+  pub halves : b ≡ 16 * upperOf y + n
+  pub least : 1 ≤ n
+  pub most : n ≤ 4
+
+known-halves : (b : ℕ) (y z : Symbol) (n u : ℕ) → isLength (b % 16) ≡ true → eqb (b / 16) u ≡ true → upperOf z ≡ u → Known z (b % 16) ≡ Known y n → Byte b y n
+known-halves b y z n u l e f g =
+    let sy : z ≡ y = cc in
+    let sn : b % 16 ≡ n = cc in
+    let k = length-bounds (b % 16) l in
+    let q = eqb-true (b / 16) u e in
+    let v : upperOf y ≡ u = sym (ap upperOf sy) ∙ f in
+    record { halves = omega arith; least = omega arith; most = omega arith }
+
+known-upper : (b : ℕ) (y : Symbol) (n : ℕ) → isLength (b % 16) ≡ true → kindWith (b / 16) (b % 16) ≡ Known y n → Byte b y n
+known-upper b y n l e =
+    let u = b / 16 in
+    tested (eqb u 1) (λ k. known-halves b y Decimal n 1 l k refl (rw k at e)) (λ k₁.
+    tested (eqb u 2) (λ k. known-halves b y Group n 2 l k refl (rw (k₁, k) at e)) (λ k₂.
+    tested (eqb u 3) (λ k. known-halves b y Minus n 3 l k refl (rw (k₁, k₂, k) at e)) (λ k₃.
+    tested (eqb u 4) (λ k. known-halves b y Plus n 4 l k refl (rw (k₁, k₂, k₃, k) at e)) (λ k₄.
+    tested (eqb u 5) (λ k. known-halves b y Percent n 5 l k refl (rw (k₁, k₂, k₃, k₄, k) at e)) (λ k₅.
+    tested (eqb u 6) (λ k. known-halves b y Permille n 6 l k refl (rw (k₁, k₂, k₃, k₄, k₅, k) at e)) (λ k₆.
+    no-kind (rw (k₁, k₂, k₃, k₄, k₅, k₆) at e)))))))
+  where
+    no-kind : Unknown ≡ Known y n → Byte b y n
+    no-kind g = never (cc)
+
+pub known-byte : (b : ℕ) (y : Symbol) (n : ℕ) → kindOf b ≡ Known y n → Byte b y n
+unfolding kindOf
+known-byte b y n e =
+    tested (isLength (b % 16)) (λ l. known-upper b y n l (rw l at e)) (λ l. no-kind (rw l at e))
+  where
+    no-kind : Unknown ≡ Known y n → Byte b y n
+    no-kind g = never (cc)
+
+-- ---- what stands in front of n bytes, by its kind
+
+pub no-entry : (b n : ℕ) → kindOf b ≡ Unknown → headIn (nameOf b) (fitting (lengthOf b) n) ≡ noHead
+no-entry b n e = rw e (head-unknown (nameOf b) n)
+
+pub an-entry : (b n : ℕ) (y : Symbol) (m : ℕ) → kindOf b ≡ Known y m → headIn (nameOf b) (fitting (lengthOf b) n) ≡ headIn (upperOf y) (fitting m n)
+an-entry b n y m e =
+    let k = known-byte b y m e in
+    let u : b / 16 ≡ upperOf y = omega arith in
+    rw (e, u)
+
+-- the first byte of an empty text
+pub first-none : (s : List ℕ) → length s ≡ 0 → 0 ≡ getD s 0 0
+first-none [] e = refl
+first-none (b ∷ s) e = absurd (no e)
+  where
+    no : suc (length s) ≡ 0 → ⊥
+    no k = omega arith

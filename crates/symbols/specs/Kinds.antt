@@ -35,3 +35,15 @@ isLength n = if ltb n 1 then false else ltb n 5
 
 unfoldable pub kindOf : ℕ → Kind
 kindOf b = if isLength (b % 16) then kindWith (b / 16) (b % 16) else Unknown
+
+-- what a kind stands for: its upper half
+abbrev pub nameOf : ℕ → ℕ
+nameOf b = b / 16
+
+-- the body's length
+abbrev pub lengthIn : Kind → ℕ
+lengthIn Unknown = 0
+lengthIn (Known y n) = n
+
+abbrev pub lengthOf : ℕ → ℕ
+lengthOf b = lengthIn (kindOf b)

@@ -1,17 +1,20 @@
 // The symbol record: refusals 40 and 41, and the body of a symbol.
 //
 // The entries are read_symbols and find. specs/Kinds.antt says what a kind byte means,
-// specs/Entries.antt what a record holds. A new kind is a line in the enum, in kind_of, in upper and
-// in their definitions.
+// specs/Entries.antt what a record of such kinds holds, by the definitions of crate records. A new
+// kind is a line in the enum, in kind_of, in upper and in their definitions.
 ghost use mathlib.Core.Path.{_≡_};
-ghost use Prim.Native.Nat.{_+_, _<_, _≤_};
-ghost use lib.ListN.{length, take, drop, getD};
-ghost use Rattle.symbols.specs.Kinds.{upperOf, kindOf};
-ghost use Rattle.symbols.specs.Entries.{headIn, headOf, entries, broken, same, holds, bodyIn, twice, bodyFits, bodiesFit, readSymbols, symbolIn, standardRecord};
+ghost use Prim.Native.Nat.{_<_};
+ghost use lib.ListN.{length, getD};
+ghost use Rattle.records.specs.Entries.{Stands, Located};
+ghost use Rattle.symbols.specs.Kinds.{upperOf, kindOf, nameOf, lengthOf};
+ghost use Rattle.symbols.specs.Entries.{entries, broken, twice, bodyFits, bodiesFit, readSymbols, symbolIn};
 use answer::Refusal;
 use answer::SymbolRow;
 use decimal::cut;
 use decimal::scan;
+use records::Head;
+use records::Spot;
 
 pub enum Symbol {
     Decimal,
@@ -26,19 +29,6 @@ pub enum Symbol {
 pub enum Kind {
     Unknown,
     Known(Symbol, usize),
-}
-
-// The entry that a record begins with: length 0 where it begins with none.
-pub struct Head {
-    pub symbol: Symbol,
-    pub len: usize,
-}
-
-// Where a symbol's body stands in a record: an empty part at its front where it has none.
-pub struct Spot {
-    pub found: bool,
-    pub start: usize,
-    pub len: usize,
 }
 
 pub enum Judged {
@@ -96,40 +86,17 @@ fn upper(y: Symbol) -> u8
     }
 }
 
-fn is_same(a: Symbol, b: Symbol) -> bool
-    ensures { λ r. ⌜ r ≡ same a b ⌝ }
-{
-    upper(a) == upper(b)
-}
-
-// The entry of kind k in front of n bytes, its own among them.
-fn head_in(k: Kind, n: usize) -> Head
-    ensures { λ r. ⌜ r ≡ headIn k n ⌝ }
-{
-    match k {
-        Kind::Unknown => Head {
-            symbol: Symbol::Decimal,
-            len: 0,
-        },
-        Kind::Known(y, m) => {
-            if m < n {
-                return Head { symbol: y, len: m };
-            }
-            Head {
-                symbol: Symbol::Decimal,
-                len: 0,
-            }
-        }
-    }
-}
-
 // The entry at a place of s.
 fn head_at(s: &[u8], at: usize) -> Head
     requires { ⌜ at < length (now s) ⌝ }
-    ensures { λ r. ⌜ r ≡ headOf (drop at (now (s .entry))) ⌝ }
-    ensures { λ r. ⌜ at + r .len < length (now (s .entry)) ⌝ }
+    ensures { λ r. ⌜ Stands lengthOf nameOf (now (s .entry)) at r ⌝ }
 {
-    head_in(kind_of(s[at]), s.len() - at)
+    let n = s.len() - at;
+    let k = kind_of(s[at]);
+    match k {
+        Kind::Unknown => records::no_head(),
+        Kind::Known(y, m) => records::head_in(upper(y), m, n),
+    }
 }
 
 // Whether s has an unknown kind or a body cut short.
@@ -147,23 +114,17 @@ fn is_broken(s: &[u8]) -> bool
     false
 }
 
-// The first entry of the symbol y in s.
-fn locate(s: &[u8], y: Symbol) -> Spot
-    ensures { λ r. ⌜ (r .found ≡ holds y (entries (now (s .entry)))) × (take (r .len) (drop (r .start) (now (s .entry))) ≡ bodyIn y (entries (now (s .entry)))) ⌝ }
-    ensures { λ r. ⌜ r .start + r .len ≤ length (now (s .entry)) ⌝ }
+// The first entry in s of the symbol with the upper half x.
+fn locate(s: &[u8], x: u8) -> Spot
+    ensures { λ r. ⌜ Located lengthOf nameOf x (now (s .entry)) r ⌝ }
 {
     let mut i = 0;
     while i < s.len() {
         let h = head_at(s, i);
         if h.len == 0 {
-            return Spot {
-                found: false,
-                start: 0,
-                len: 0,
-            };
+            return records::nowhere();
         }
-        let held = h.symbol;
-        if is_same(held, y) {
+        if h.name == x {
             return Spot {
                 found: true,
                 start: i + 1,
@@ -172,19 +133,7 @@ fn locate(s: &[u8], y: Symbol) -> Spot
         }
         i += 1 + h.len;
     }
-    Spot {
-        found: false,
-        start: 0,
-        len: 0,
-    }
-}
-
-// Whether s has the symbol y.
-fn has(s: &[u8], y: Symbol) -> bool
-    ensures { λ r. ⌜ r ≡ holds y (entries (now (s .entry))) ⌝ }
-{
-    let p = locate(s, y);
-    p.found
+    records::nowhere()
 }
 
 // Whether s has a symbol twice. No more than six entries are passed before that is known.
@@ -197,9 +146,9 @@ fn is_twice(s: &[u8]) -> bool
         if h.len == 0 {
             return false;
         }
-        let held = h.symbol;
         let next = i + (1 + h.len);
-        if has(cut::after(s, next), held) {
+        let later = locate(cut::after(s, next), h.name);
+        if later.found {
             return true;
         }
         i = next;
@@ -264,13 +213,13 @@ pub fn read_symbols(s: &[u8]) -> Judged
 pub fn find<'a>(house: &'a [u8], standard: &'a [u8], y: Symbol) -> &'a [u8]
     ensures { λ r. ⌜ now r ≡ symbolIn (now (house .entry)) (now (standard .entry)) y ⌝ }
 {
-    let h = locate(house, y);
+    let h = locate(house, upper(y));
     let a = h.start;
     let e = h.start + h.len;
     if h.found {
         return &house[a..e];
     }
-    let d = locate(standard, y);
+    let d = locate(standard, upper(y));
     let b = d.start;
     let f = d.start + d.len;
     &standard[b..f]

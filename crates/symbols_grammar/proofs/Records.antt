@@ -1,33 +1,38 @@
 -- The record that is read is the record that the bytes spell; rows 40 and 41; the body that the finder gives is the symbol's.
 use mathlib.Core.Path.{_≡_, refl, sym, ap, subst, _∙_}
 use mathlib.Core.Bool.{true, false}
-use mathlib.Core.List.{List, [], _∷_, _++_}
+use mathlib.Core.List.{List}
 use mathlib.Core.Logic.{_↔_}
-use Prim.Native.Nat.{ℕ, zero, suc, _+_, _*_, _/_, _%_, _≤_, _<_}
+use Prim.Native.Nat.{ℕ, _+_, _*_, _/_, _%_, _≤_}
 use native.Mathlib.Omega.{arith}
-use borrow.Author.Tests.{ne-eqb, eqb-true, eqb-false, lt-ltb, ltb-true}
-use lib.Dec.{eqb, ltb}
-use lib.ListN.{length, take, drop, take-append-drop, length-append, length-drop}
-use lib.Seq.{take-at, drop-at, length-take-le}
+use lib.ListN.{length}
 use Rattle.decimal.proofs.Choices.{tested, never, not-both}
 use Rattle.answer.specs.declared.SymbolRow.the-variants.{NotASymbolRecord}
+use Rattle.records.specs.Entries.{Entry}
+use Rattle.records.specs.Spelled.{Fixed, Among}
+use Rattle.records.proofs.Told.{holds-told, twice-told, once-told, body-found}
+use Rattle.records.proofs.Spellings.{spells-as, spells-read as fixed-read, read-spells as read-fixed}
 use Rattle.symbols.specs.declared.Symbol.{Symbol}
 use Rattle.symbols.specs.declared.Symbol.the-variants.{Decimal, Group, Minus, Plus, Percent, Permille}
 use Rattle.symbols.specs.declared.Kind.{Kind}
 use Rattle.symbols.specs.declared.Kind.the-variants.{Unknown, Known}
-use Rattle.symbols.specs.declared.Head.{Head}
 use Rattle.symbols.specs.declared.Judged.{Judged}
 use Rattle.symbols.specs.declared.Judged.the-variants.{Good}
-use Rattle.symbols.specs.Kinds.{upperOf, kindWith, isLength, kindOf}
-use Rattle.symbols.specs.Entries.{headIn, headOf, Entry, entries, broken, same, holds, bodyIn, twice, bodyFits, bodiesFit, refuse, readSymbols, symbolIn, standardRecord}
-use Rattle.symbols.proofs.KindLaws.{kind-at, length-bounds}
-use Rattle.symbols.proofs.EntryLaws.{entries-skip, broken-skip}
-use Rattle.symbols_grammar.specs.Record.{kindByte, Sized, AllSized, none, more, textOf, Spells, Among, Twice, IsBody, Verdict, no-record, symbol-twice, bad-body, good, SymbolIs, own, standard}
-use Rattle.symbols_grammar.specs.Record.Among.{here, later}
-use Rattle.symbols_grammar.specs.Record.Twice.{here as twice-here, later as twice-later}
-use Rattle.symbols_grammar.proofs.Told.{kind-with, same-told, holds-told, twice-told, body-told, bodies-told, unfit-entry}
+use Rattle.symbols.specs.Kinds.{upperOf, kindWith, kindOf, nameOf, lengthIn, lengthOf}
+use Rattle.symbols.specs.Entries.{entries, broken, holds, bodyIn, twice, bodyFits, bodiesFit, refuse, readSymbols, symbolIn, standardRecord}
+use Rattle.symbols.proofs.KindLaws.{kind-at, known-byte}
+use Rattle.symbols_grammar.specs.Record.{IsEntry, Spells, Of, Twice, IsBody, Verdict, no-record, symbol-twice, bad-body, good, SymbolIs, own, standard}
+use Rattle.symbols_grammar.proofs.Told.{body-told, bodies-told, unfit-entry}
 
--- ---- kind bytes
+kind-with : (y : Symbol) (n : ℕ) → kindWith (upperOf y) n ≡ Known y n
+kind-with Decimal n = refl
+kind-with Group n = refl
+kind-with Minus n = refl
+kind-with Plus n = refl
+kind-with Percent n = refl
+kind-with Permille n = refl
+
+-- ---- entries: the kind's halves are its symbol's and the body's length
 
 kind-spelled : (y : Symbol) (n : ℕ) → 1 ≤ n → n ≤ 4 → kindOf (16 * upperOf y + n) ≡ Known y n
 kind-spelled y n h k =
@@ -35,138 +40,43 @@ kind-spelled y n h k =
     let l : b % 16 ≡ n = omega arith in
     kind-at b (upperOf y) (omega arith) (omega arith) (omega arith) ∙ (ap (kindWith (upperOf y)) l ∙ kind-with y n)
 
--- a byte of a known kind spells it
-pub record Byte (b : ℕ) (y : Symbol) (n : ℕ) : Type 0 where
-  pub halves : b ≡ 16 * upperOf y + n
-  pub least : 1 ≤ n
-  pub most : n ≤ 4
+entry-fixed : (e : Entry) → IsEntry e → Fixed lengthOf e
+entry-fixed e w =
+    let k : kindOf (e .kind) ≡ Known (w .symbol) (length (e .body)) = rw (w .halves) (kind-spelled (w .symbol) (length (e .body)) (w .least) (omega (arith, w .most))) in
+    record { size = rw k; some = omega (arith, w .least) }
 
-known-halves : (b : ℕ) (y z : Symbol) (n u : ℕ) → isLength (b % 16) ≡ true → eqb (b / 16) u ≡ true → upperOf z ≡ u → Known z (b % 16) ≡ Known y n → Byte b y n
-known-halves b y z n u l e f g =
-    let sy : z ≡ y = cc in
-    let sn : b % 16 ≡ n = cc in
-    let k = length-bounds (b % 16) l in
-    let q = eqb-true (b / 16) u e in
-    let v : upperOf y ≡ u = sym (ap upperOf sy) ∙ f in
-    record { halves = omega arith; least = omega arith; most = omega arith }
-
-no-kind : {A : Type 0} (y : Symbol) (n : ℕ) → Unknown ≡ Known y n → A
-no-kind y n e = absurd (no e)
+fixed-entry : (e : Entry) → Fixed lengthOf e → IsEntry e
+fixed-entry e f = by (kindOf (e .kind)) refl
   where
-    no : Unknown ≡ Known y n → ⊥
-    no g =
-        let z : _≡_ {A = ℕ} 0 1 = cc in
-        omega arith
+    by : (k : Kind) → kindOf (e .kind) ≡ k → IsEntry e
+    by Unknown q = absurd (omega (arith, f .some, sym (ap lengthIn q) ∙ f .size))
+    by (Known y n) q =
+        let b = known-byte (e .kind) y n q in
+        let z : n ≡ length (e .body) = sym (ap lengthIn q) ∙ f .size in
+        record { symbol = y; halves = omega arith; least = omega arith; most = omega arith }
 
-known-upper : (b : ℕ) (y : Symbol) (n : ℕ) → isLength (b % 16) ≡ true → kindWith (b / 16) (b % 16) ≡ Known y n → Byte b y n
-known-upper b y n l e =
-    let u = b / 16 in
-    tested (eqb u 1) (λ k. known-halves b y Decimal n 1 l k refl (rw k at e)) (λ k₁.
-    tested (eqb u 2) (λ k. known-halves b y Group n 2 l k refl (rw (k₁, k) at e)) (λ k₂.
-    tested (eqb u 3) (λ k. known-halves b y Minus n 3 l k refl (rw (k₁, k₂, k) at e)) (λ k₃.
-    tested (eqb u 4) (λ k. known-halves b y Plus n 4 l k refl (rw (k₁, k₂, k₃, k) at e)) (λ k₄.
-    tested (eqb u 5) (λ k. known-halves b y Percent n 5 l k refl (rw (k₁, k₂, k₃, k₄, k) at e)) (λ k₅.
-    tested (eqb u 6) (λ k. known-halves b y Permille n 6 l k refl (rw (k₁, k₂, k₃, k₄, k₅, k) at e)) (λ k₆.
-    no-kind y n (rw (k₁, k₂, k₃, k₄, k₅, k₆) at e)))))))
-
-known-byte : (b : ℕ) (y : Symbol) (n : ℕ) → kindOf b ≡ Known y n → Byte b y n
-unfolding kindOf
-known-byte b y n e =
-    tested (isLength (b % 16)) (λ l. known-upper b y n l (rw l at e)) (λ l. no-kind y n (rw l at e))
-
--- ---- the first entry
-
-pub record First (b : ℕ) (s : List ℕ) (h : Head) : Type 0 where
-  pub byte : Byte b (h .symbol) (h .len)
-  pub room : h .len ≤ length s
-
-head-found : (b : ℕ) (s : List ℕ) (k : Kind) → kindOf b ≡ k → (headIn k (suc (length s)) .len ≡ 0 → ⊥) → First b s (headIn k (suc (length s)))
-head-found b s Unknown e f = absurd (f refl)
-head-found b s (Known y n) e f =
-    tested (ltb n (suc (length s)))
-    (λ k. rw k (record { byte = known-byte b y n e; room = omega (arith, ltb-true n (suc (length s)) k) }))
-    (λ k. absurd (f (rw k)))
-
-head-spelled : (e : Entry) (r : List ℕ) → Sized e → headOf (kindByte e ∷ (e .body ++ r)) ≡ record { symbol = e .symbol; len = length (e .body) }
-head-spelled e r z =
-    let n = length (e .body) in
-    let l : n < suc (length (e .body ++ r)) = omega (arith, length-append (e .body) r) in
-    rw (kind-spelled (e .symbol) n (z .least) (z .most), lt-ltb n (suc (length (e .body ++ r))) l)
-
--- ---- what is spelled is read
-
-spelled-read : (es : List Entry) → AllSized es → (entries (textOf es) ≡ es) × (broken (textOf es) ≡ false)
-spelled-read [] a = (refl, refl)
-spelled-read (e ∷ es) (more z a) =
-    let ih = spelled-read es a in
-    let n = length (e .body) in
-    let r = textOf es in
-    let h = head-spelled e r z in
-    let p : n ≡ 0 → ⊥ = λ y. omega (arith, z .least) in
-    let d : drop n (e .body ++ r) ≡ r = drop-at (e .body) r n refl in (
-      entries-once (kindByte e) (e .body ++ r) (e .symbol) n h p
-          ∙ (rw (take-at (e .body) r n refl, d) (ap (λ (l : List Entry). e ∷ l) (ih .0))),
-      broken-once (kindByte e) (e .body ++ r) (e .symbol) n h p ∙ rw d (ih .1),
-    )
+-- an entry of the symbol y is one whose symbol is y
+pub of-told : (e : Entry) (w : IsEntry e) (y : Symbol) → Of y e ↔ (w .symbol ≡ y)
+of-told e w y = (λ o. symbol-of-upper (w .symbol) y (sym upper ∙ o), λ q. upper ∙ ap upperOf q)
   where
-    entries-once : (b : ℕ) (s : List ℕ) (y : Symbol) (n : ℕ) → headOf (b ∷ s) ≡ record { symbol = y; len = n } → (n ≡ 0 → ⊥)
-        → entries (b ∷ s) ≡ record { symbol = y; body = take n s } ∷ entries (drop n s)
-    entries-once b s y n h p = rw (h, ne-eqb n 0 p) (ap (λ (l : List Entry). record { symbol = y; body = take n s } ∷ l) (entries-skip n s))
+    upper : e .kind / 16 ≡ upperOf (w .symbol)
+    upper = omega (arith, w .halves, w .least, w .most)
 
-    broken-once : (b : ℕ) (s : List ℕ) (y : Symbol) (n : ℕ) → headOf (b ∷ s) ≡ record { symbol = y; len = n } → (n ≡ 0 → ⊥)
-        → broken (b ∷ s) ≡ broken (drop n s)
-    broken-once b s y n h p = rw (h, ne-eqb n 0 p) (broken-skip n s)
+    symbol-of-upper : (x z : Symbol) → upperOf x ≡ upperOf z → x ≡ z
+    symbol-of-upper x z q = of-kinds (sym (kind-with x 0) ∙ (ap (λ (u : ℕ). kindWith u 0) q ∙ kind-with z 0))
+      where
+        of-kinds : Known x 0 ≡ Known z 0 → x ≡ z
+        of-kinds k = cc
+
+-- ---- what is spelled is read, and what is read is spelled
 
 pub spells-read : (s : List ℕ) (es : List Entry) → Spells s es → (entries s ≡ es) × (broken s ≡ false)
-spells-read s es w =
-    let r = spelled-read es (w .sized) in
-    (ap entries (w .text) ∙ r .0, ap broken (w .text) ∙ r .1)
-
--- ---- what is read is spelled
-
-read-step : (m b : ℕ) (r : List ℕ) → length r ≤ m → ((t : List ℕ) → length t ≤ m → broken t ≡ false → Spells t (entries t))
-    → broken (b ∷ r) ≡ false → Spells (b ∷ r) (entries (b ∷ r))
-read-step m b r l ih e = tested (eqb (headOf (b ∷ r) .len) 0) (λ k. not-both refl (rw k at e)) some
-  where
-    spelled : (h : Head) → First b r h → broken (drop (h .len) r) ≡ false
-        → Spells (b ∷ r) (record { symbol = h .symbol; body = take (h .len) r } ∷ entries (drop (h .len) r))
-    spelled h f k =
-        let n = h .len in
-        let w = ih (drop n r) (omega (arith, length-drop n r)) k in
-        let z : length (take n r) ≡ n = length-take-le n r (f .room) in
-        let v : b ≡ 16 * upperOf (h .symbol) + length (take n r) = rw z (f .byte .halves) in
-        let d : Sized (record { symbol = h .symbol; body = take n r }) = record { least = omega (arith, f .byte .least); most = omega (arith, f .byte .most) } in
-        record {
-          text =
-              ap (λ (c : ℕ). c ∷ r) v
-              ∙ ap (λ (t : List ℕ). (16 * upperOf (h .symbol) + length (take n r)) ∷ t)
-              (sym (take-append-drop n r) ∙ ap (λ (t : List ℕ). take n r ++ t) (w .text));
-          sized = more d (w .sized);
-        }
-
-    some : eqb (headOf (b ∷ r) .len) 0 ≡ false → Spells (b ∷ r) (entries (b ∷ r))
-    some k =
-        let h = headOf (b ∷ r) in
-        let f = head-found b r (kindOf b) refl (eqb-false (h .len) 0 k) in
-        let c : broken (drop (h .len) r) ≡ false = sym (broken-skip (h .len) r) ∙ rw k at e in
-        rw k (subst (λ (l : List Entry). Spells (b ∷ r) (record { symbol = h .symbol; body = take (h .len) r } ∷ l)) (sym (entries-skip (h .len) r)) (spelled h f c))
-
-read-within : (m : ℕ) (s : List ℕ) → length s ≤ m → broken s ≡ false → Spells s (entries s)
-read-within zero [] h e = record { text = refl; sized = none }
-read-within zero (b ∷ r) h e = absurd (no h)
-  where
-    no : suc (length r) ≤ 0 → ⊥
-    no g = omega arith
-read-within (suc m) [] h e = record { text = refl; sized = none }
-read-within (suc m) (b ∷ r) h e = read-step m b r (omega arith) (λ t g c. read-within m t g c) e
+spells-read s es w = fixed-read lengthOf s es (spells-as entry-fixed w)
 
 pub read-spells : (s : List ℕ) → broken s ≡ false → Spells s (entries s)
-read-spells s e = read-within (length s) s (omega arith) e
+read-spells s e = spells-as fixed-entry (read-fixed lengthOf s e)
 
 -- ---- rows 40 and 41: "given exactly when"
-
-once : (es : List Entry) → (Twice es → ⊥) → twice es ≡ false
-once es f = tested (twice es) (λ k. absurd (f (twice-told es .0 k))) (λ k. k)
 
 pub verdict-given : (s : List ℕ) {r : Judged} → Verdict s r → readSymbols s ≡ r
 verdict-given s (no-record f) =
@@ -174,14 +84,14 @@ verdict-given s (no-record f) =
     rw k
 verdict-given s (symbol-twice es w t) =
     let r = spells-read s es w in
-    rw (r .1, r .0, twice-told es .1 t)
+    rw (r .1, r .0, twice-told nameOf es .1 t)
 verdict-given s (bad-body es w t e a n) =
     let r = spells-read s es w in
     let b : bodiesFit es ≡ false = tested (bodiesFit es) (λ k. absurd (n (bodies-told es .0 k e a))) (λ k. k) in
-    rw (r .1, r .0, once es t, b)
+    rw (r .1, r .0, once-told nameOf es .1 t, b)
 verdict-given s (good es w t f) =
     let r = spells-read s es w in
-    rw (r .1, r .0, once es t, bodies-told es .1 f)
+    rw (r .1, r .0, once-told nameOf es .1 t, bodies-told es .1 f)
 
 pub verdict-found : (s : List ℕ) → Verdict s (readSymbols s)
 verdict-found s = tested (broken s) (λ k. made (no-record (λ es w. not-both k (spells-read s es w .1)))) whole
@@ -193,9 +103,9 @@ verdict-found s = tested (broken s) (λ k. made (no-record (λ es w. not-both k 
     whole k =
         let es = entries s in
         let w = read-spells s k in
-        tested (twice es) (λ t. made (symbol-twice es w (twice-told es .0 t)))
+        tested (twice es) (λ t. made (symbol-twice es w (twice-told nameOf es .0 t)))
         (λ t.
-        let apart : Twice es → ⊥ = λ z. not-both (twice-told es .1 z) t in
+        let apart : Twice es → ⊥ = λ z. not-both (twice-told nameOf es .1 z) t in
         tested (bodiesFit es) (λ b. made (good es w apart (bodies-told es .0 b)))
         (λ b.
         let u = unfit-entry es b in
@@ -217,15 +127,9 @@ passed s es g w = by (verdict-found s) g
     by (bad-body ds v t d a n) e = never (cc)
     by (good ds v t f) e = subst Passed (sym (spells-read s ds v .0) ∙ spells-read s es w .0) (record { apart = t; bodies = f })
 
--- an entry's body is found by its symbol, unless that stands twice
-found-among : {e : Entry} {es : List Entry} → Among e es → (Twice es → ⊥) → bodyIn (e .symbol) es ≡ e .body
-found-among (here {e} {es}) f = rw (same-told (e .symbol) (e .symbol) .1 refl)
-found-among (later {e} {d} {es} a) f =
-    tested (same (d .symbol) (e .symbol)) (λ k. absurd (f (twice-here a (sym (same-told (d .symbol) (e .symbol) .0 k)))))
-    (λ k. rw k (found-among a (λ t. f (twice-later t))))
-
-found-good : (s : List ℕ) (es : List Entry) (e : Entry) (y : Symbol) → readSymbols s ≡ Good → Spells s es → Among e es → e .symbol ≡ y → bodyIn y es ≡ e .body
-found-good s es e y g w a q = ap (λ (z : Symbol). bodyIn z es) (sym q) ∙ found-among a (passed s es g w .apart)
+-- an entry's body is found by its symbol
+found-good : (s : List ℕ) (es : List Entry) (e : Entry) (y : Symbol) → readSymbols s ≡ Good → Spells s es → Among e es → Of y e → bodyIn y es ≡ e .body
+found-good s es e y g w a q = rw q at (body-found nameOf a (passed s es g w .apart))
 
 pub standard-good : readSymbols standardRecord ≡ Good
 unfolding kindOf
@@ -247,9 +151,9 @@ standard-holds Permille = refl
 
 module _ (house : List ℕ) (g : readSymbols house ≡ Good) (y : Symbol) where
   symbol-given : {b : List ℕ} → SymbolIs house y b → symbolIn house standardRecord y ≡ b
-  symbol-given (own es w e a q) = rw (spells-read house es w .0, holds-told y es .1 (record { entry = e; among = a; its = q })) (found-good house es e y g w a q)
+  symbol-given (own es w e a q) = rw (spells-read house es w .0, holds-told nameOf (upperOf y) es .1 (record { entry = e; among = a; its = q })) (found-good house es e y g w a q)
   symbol-given (standard es ds w f v d a q) =
-      let h : holds y es ≡ false = tested (holds y es) (λ k. let r = holds-told y es .0 k in absurd (f (r .entry) (r .among) (r .its))) (λ k. k) in
+      let h : holds y es ≡ false = tested (holds y es) (λ k. let r = holds-told nameOf (upperOf y) es .0 k in absurd (f (r .entry) (r .among) (r .its))) (λ k. k) in
       rw (spells-read house es w .0, h, spells-read standardRecord ds v .0) (found-good standardRecord ds d y standard-good v a q)
 
   symbol-found : SymbolIs house y (symbolIn house standardRecord y)
@@ -258,11 +162,11 @@ module _ (house : List ℕ) (g : readSymbols house ≡ Good) (y : Symbol) where
       let ds = entries standardRecord in
       tested (holds y es)
       (λ k.
-      let r = holds-told y es .0 k in
+      let r = holds-told nameOf (upperOf y) es .0 k in
       made (own es w (r .entry) (r .among) (r .its)))
       (λ k.
-      let r = holds-told y ds .0 (standard-holds y) in
-      made (standard es ds w (λ e a q. not-both (holds-told y es .1 (record { entry = e; among = a; its = q })) k) standard-spells (r .entry) (r .among) (r .its)))
+      let r = holds-told nameOf (upperOf y) ds .0 (standard-holds y) in
+      made (standard es ds w (λ e a q. not-both (holds-told nameOf (upperOf y) es .1 (record { entry = e; among = a; its = q })) k) standard-spells (r .entry) (r .among) (r .its)))
     where
       made : {b : List ℕ} → SymbolIs house y b → SymbolIs house y (symbolIn house standardRecord y)
       made {b} x = subst (SymbolIs house y) (sym (symbol-given x)) x

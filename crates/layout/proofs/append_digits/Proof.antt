@@ -4,14 +4,14 @@ use Prim.Native.Nat.{_≤_, _-_}
 use lib.ListN.{length, drop}
 use Rattle.area.specs.Area.{most}
 use Rattle.area.proofs.Pieces.{Left, start, again, done, joined}
-use Rattle.layout.specs.Layout.{grouped}
+use Rattle.layout.specs.Layout.{zeroDigit, grouped}
 use Rattle.layout.proofs.Writing.{grouped-step, grouped-end}
 use borrow.Author.Needs.{needs}
 use Rattle.layout.proofs.append_digits.Statement.{statement}
 use Rattle.layout.proofs.append_digits.Tie as tie
 
 abbrev Inv-loop : tie.InvT-loop
-Inv-loop out₀ at group primary secondary d k₀ i₀ out k i = (i ≤ length d) × (k ≤ most) × (length out₀ ≤ most) × Left out₀ at (grouped group primary secondary d) out k (grouped group primary secondary (drop i d))
+Inv-loop out₀ at group primary secondary d k₀ i₀ out k i = (i ≤ length d) × (k ≤ most) × (length out₀ ≤ most) × Left out₀ at (grouped zeroDigit group primary secondary d) out k (grouped zeroDigit group primary secondary (drop i d))
 
 abbrev μ-loop : tie.MeasureT-loop
 μ-loop out₀ at group primary secondary d k₀ i₀ out k i = length d - i
@@ -47,13 +47,13 @@ loop-again c =
     let h = c .before .before .before .before .before .before .before .before .before .before .loop-test .taken in
     let x = c .before .before .before .before .before .before .before .append-digit .ensures in
     let y = rw (c .before .before .before .is-marked .ensures) at (c .before .before .append-if .ensures) in
-    (omega arith, omega (arith, y .next), l .inv .2, again (l .inv .2) (l .inv .3) (grouped-step (a .group .now) (a .primary) (a .secondary) (a .d .now) (l .i) h) (joined (omega (arith, l .inv .3 .size)) x y))
+    (omega arith, omega (arith, y .next), l .inv .2, again (l .inv .2) (l .inv .3) (grouped-step zeroDigit (a .group .now) (a .primary) (a .secondary) (a .d .now) (l .i) h) (joined (omega (arith, l .inv .3 .size)) x y))
 
 same-length : tie.Need-same-length Inv-loop μ-loop
 same-length c = c .before .loop .inv .3 .size
 
 returns : tie.Need-returns Inv-loop μ-loop
-returns c = done (c .before .loop .inv .1) (c .before .loop .inv .3) (grouped-end _ _ _ _ _ (c .loop-test .left))
+returns c = done (c .before .loop .inv .1) (c .before .loop .inv .3) (grouped-end _ _ _ _ _ _ (c .loop-test .left))
 
 pub append-digits-spec : {M : Type 1} → statement M
 append-digits-spec =

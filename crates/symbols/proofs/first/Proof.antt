@@ -1,5 +1,5 @@
 -- `symbols::first` answers the first byte, or 0 of an empty text.
-use Rattle.symbols.proofs.EntryLaws.{first-none}
+use Rattle.symbols.proofs.KindLaws.{first-none}
 use borrow.Author.Needs.{needs}
 use Rattle.symbols.proofs.first.Statement.{statement}
 use Rattle.symbols.proofs.first.Tie as tie

@@ -1,47 +1,37 @@
 -- `symbols::locate` finds the first entry of a symbol. The invariant: what is found from here on is what the record holds.
 use native.Mathlib.Omega.{arith}
-use mathlib.Core.Path.{sym, _∙_}
+use borrow.Author.Tests.{eq-eqb, ne-eqb}
 use Prim.Native.Nat.{_≤_, _-_}
 use lib.ListN.{length}
-use Rattle.symbols.proofs.EntryLaws.{Sought, sought-start, sought-none, sought-found, sought-again, entries-end, entries-step, entries-out}
+use Rattle.records.proofs.Walks.{Sought, turn, entries-end, entries-out, sought-start, sought-none, sought-found, sought-again}
+use Rattle.symbols.specs.Kinds.{nameOf, lengthOf}
 use borrow.Author.Needs.{needs}
 use Rattle.symbols.proofs.locate.Statement.{statement}
 use Rattle.symbols.proofs.locate.Tie as tie
 
 abbrev Inv-loop : tie.InvT-loop
-Inv-loop s y i₀ i = (i ≤ length s) × Sought y s i
+Inv-loop s x i₀ i = (i ≤ length s) × Sought lengthOf nameOf x s i
 
 abbrev μ-loop : tie.MeasureT-loop
-μ-loop s y i₀ i = length s - i
+μ-loop s x i₀ i = length s - i
 
 loop-holds : tie.Need-loop-holds Inv-loop μ-loop
-loop-holds c = (search needs, sought-start (c .before .args .y) (c .before .args .s .now))
+loop-holds c = (search needs, sought-start)
 
 head-at-requires : tie.Need-head-at-requires Inv-loop μ-loop
 head-at-requires c κs = search needs
 
+nowhere-requires : tie.Need-nowhere-requires Inv-loop μ-loop
+nowhere-requires c κs = search needs
+
 returns : tie.Need-returns Inv-loop μ-loop
-returns c =
-    let s = c .before .before .before .before .before .before .args .s .now in (
-      sought-none (c .before .before .before .before .before .before .args .y) s (c .before .before .before .before .loop .i) (c .before .before .before .before .loop .inv .1)
-          (entries-end s (c .before .before .before .before .loop .i) (c .before .before .before .loop-test .taken) (c .before .before .head-at .result) (c .before .before .head-at .ensures .0) (c .if1 .taken)),
-      search needs,
-    )
+returns c = rw (c .nowhere .ensures) (sought-none (c .before .before .before .before .before .loop .inv .1) (entries-end (c .before .before .before .head-at .ensures) (c .before .if1 .taken)))
 
-is-same-requires : tie.Need-is-same-requires Inv-loop μ-loop
-is-same-requires c κs = search needs
-
-add-t9 : tie.Need-add-t9 Inv-loop μ-loop
-add-t9 c = search needs
+add-t7 : tie.Need-add-t7 Inv-loop μ-loop
+add-t7 c = search needs
 
 returns-2 : tie.Need-returns-2 Inv-loop μ-loop
-returns-2 c =
-    let s = c .before .before .before .before .before .before .before .before .args .s .now in (
-      sought-found (c .before .before .before .before .before .before .before .before .args .y) s (c .before .before .before .before .before .before .loop .i) (c .before .before .before .before .head-at .result) (c .before .before .before .before .before .before .loop .inv .1)
-          (entries-step s (c .before .before .before .before .before .before .loop .i) (c .before .before .before .before .before .loop-test .taken) (c .before .before .before .before .head-at .result) (c .before .before .before .before .head-at .ensures .0) (c .before .before .if1 .left))
-          (sym (c .before .is-same .ensures) ∙ c .if2 .taken),
-      omega (arith, c .before .before .before .before .head-at .ensures .1),
-    )
+returns-2 c = sought-found (turn (c .before .before .before .before .head-at .ensures) (c .before .before .if1 .left)) (c .before .before .before .before .before .before .loop .inv .1) (eq-eqb _ _ (c .if2 .taken))
 
 add-i : tie.Need-add-i Inv-loop μ-loop
 add-i c = search needs
@@ -53,18 +43,13 @@ loop-less : tie.Need-loop-less Inv-loop μ-loop
 loop-less c = search needs
 
 loop-again : tie.Need-loop-again Inv-loop μ-loop
-loop-again c =
-    let s = c .before .before .before .before .before .before .before .before .before .args .s .now in (
-      omega (arith, c .before .before .before .before .before .head-at .ensures .1),
-      sought-again (c .before .before .before .before .before .before .before .before .before .args .y) s (c .before .before .before .before .before .before .before .loop .i) (c .before .before .before .before .before .head-at .result) (c .before .before .before .before .before .before .before .loop .inv .1)
-          (entries-step s (c .before .before .before .before .before .before .before .loop .i) (c .before .before .before .before .before .before .loop-test .taken) (c .before .before .before .before .before .head-at .result) (c .before .before .before .before .before .head-at .ensures .0) (c .before .before .before .if1 .left))
-          (sym (c .before .before .is-same .ensures) ∙ c .before .if2 .left),
-    )
+loop-again c = (omega (arith, c .before .before .before .before .before .head-at .ensures .within), sought-again (turn (c .before .before .before .before .before .head-at .ensures) (c .before .before .before .if1 .left)) (c .before .before .before .before .before .before .before .loop .inv .1) (ne-eqb _ _ (c .before .if2 .left)))
+
+nowhere-requires-2 : tie.Need-nowhere-requires-2 Inv-loop μ-loop
+nowhere-requires-2 c κs = search needs
 
 returns-3 : tie.Need-returns-3 Inv-loop μ-loop
-returns-3 c =
-    let s = c .before .before .before .args .s .now in
-    (sought-none (c .before .before .before .args .y) s (c .before .loop .i) (c .before .loop .inv .1) (entries-out s (c .before .loop .i) (c .loop-test .left)), search needs)
+returns-3 c = rw (c .nowhere2 .ensures) (sought-none (c .before .before .loop .inv .1) (entries-out lengthOf (c .before .before .before .before .args .s .now) (c .before .before .loop .i) (c .before .loop-test .left)))
 
 pub locate-spec : {M : Type 1} → statement M
 locate-spec =
@@ -74,12 +59,13 @@ locate-spec =
     μ-loop
     loop-holds
     head-at-requires
+    nowhere-requires
     returns
-    is-same-requires
-    add-t9
+    add-t7
     returns-2
     add-i
     add-i-2
     loop-less
     loop-again
+    nowhere-requires-2
     returns-3)
