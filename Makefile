@@ -1,3 +1,4 @@
+# Targets that prove first (demo, example, pack, bench, linked) say on stderr which crate was proved and in what time; target/NAME.log has all of it.
 # demo: builds the bench program and runs it on document 01's whole case.
 # example: builds the library and runs the C program of c/example.c.
 # pack FILE=..: checks a language pack from a file, and shows what is wrong with it and where.
@@ -15,14 +16,12 @@ RUST := --release --manifest-path rust/Cargo.toml
 CC_FLAGS := -std=c11 -O2 -Wall -Wextra -Werror -Iinclude
 
 demo:
-	@mkdir -p target
-	@rt check bench > target/demo.log 2>&1 || { cat target/demo.log; exit 1; }
+	@.ci/progress check bench
 	@target/bin/bench < demo/whole-case.jobs
 
 # A static library: proved, then compiled.
 target/staticlib/lib%.a: $(SOURCES)
-	@mkdir -p target
-	@rt staticlib $* > target/$*.log 2>&1 || { cat target/$*.log; exit 1; }
+	@.ci/progress staticlib $*
 
 example: $(SCREEN)
 	@mkdir -p target/c

@@ -7,26 +7,41 @@
  *   figures[1..n]     the figures
  *   entries past n    keep what they held
  *
- * Refusals and their figures:
+ * Refusals, with their figures in brackets; docs/REFERENCE.md says more of each:
  *
- *   10 number over 64 bytes                   11 not the number grammar
- *   12 exponent above 14                      13 exponent after a zero integer part
- *   14 i has over 15 digits                   15 v above 9
- *   20 pack over 4,096 bytes                  21 not the pack grammar: place
- *   22 relation value above 999,999: place    23 modulus not listed: place
- *   24 a above b in a range a..b: place of b  25 keyword unknown or repeated: place
- *   26 clause, relation or range too many: place
- *   27 two rules met: their places, counted from 1; from okw_check also e, v, i, f of the least number
- *   30 pattern over 256 bytes                 31 pattern not UTF-8
- *   32 bare currency sign, `*`, `@`, or `E` after a number-part byte
- *   33 not the pattern grammar                34 over 15 integer or 9 fraction places
- *   35 step above 999,999 units               36 percent or permille marks too many, or they differ
- *   40 not a symbol record                    41 symbol body not one code point, or a digit
- *   50 printing a number with an exponent     51 text longer than out: bytes needed
+ *   10  number over 64 bytes
+ *   11  not the number grammar
+ *   12  exponent above 14
+ *   13  exponent after a zero integer part
+ *   14  i, leading zeros dropped, has over 15 digits
+ *   15  v above 9
+ *   20  pack over 4,096 bytes
+ *   21  not the pack grammar [place]
+ *   22  relation value above 999,999 [place]
+ *   23  modulus not listed [place]
+ *   24  range a..b with a above b [place]
+ *   25  keyword unknown or repeated [place]
+ *   26  clause, relation or range too many [place]
+ *   27  two rules met [first, second; from the check: first, second, e, v, i, f]
+ *   30  pattern over 256 bytes
+ *   31  pattern not UTF-8
+ *   32  bare `¤`, `*`, `@`, or `E` after a number-part byte
+ *   33  not the pattern grammar, or a quote left open
+ *   34  over 15 integer or 9 fraction places
+ *   35  step above 999,999 units of the last place
+ *   36  over one percent or permille mark in a subpattern, or the two subpatterns differ in it
+ *   40  symbol record: unknown kind, body cut short, or symbol twice
+ *   41  symbol record: body not one UTF-8 code point, or an ASCII digit
+ *   50  printing a number with an exponent
+ *   51  text longer than the output area [needed]
+ *
+ * place: where in the pack, in bytes from 0, for 24 that of b. first, second: rules, counted from 1.
+ * e, v, i, f: the least number that meets both. needed: the text's length.
  *
  * A slice is a pointer and a length. Where the length is 0 the pointer is never followed and may be
- * NULL. Slices that are only read may overlap; out and figures may overlap nothing else. No entry keeps a pointer, allocates, or writes anything but
- * figures and, where okw_print answers 0, the first figures[1] bytes of out.
+ * NULL. Slices that are only read may overlap; out and figures may overlap nothing else. No entry
+ * keeps a pointer, allocates, or writes anything but figures and, where okw_print answers 0, the
+ * first figures[1] bytes of out.
  */
 #ifndef OKWAZIBELU_H
 #define OKWAZIBELU_H

@@ -20,6 +20,11 @@ pub use refusal::{Least, Refusal};
 use raw::Figures;
 use std::fmt;
 
+/// The Rust code of the repository's README, which is tested as the examples here are.
+#[cfg(doctest)]
+#[doc = include_str!("../../../README.md")]
+pub struct Readme;
+
 /// The sign of a number and the operands of its absolute value.
 #[derive(Clone, Copy, Debug, PartialEq, Eq)]
 pub struct Operands {
@@ -177,6 +182,9 @@ pub fn print(
 fn answer(number: u32, figures: &Figures) -> Result<(), Refusal> {
     match number {
         0 => Ok(()),
-        _ => Err(Refusal::new(number, figures)),
+        _ => {
+            Err(Refusal::of(number, figures)
+                .expect("the library returns only numbers of the table"))
+        }
     }
 }

@@ -1,4 +1,4 @@
-//! The refusals of document 01's table.
+//! The refusals of document 01's table, held by tests/table.rs to the one of docs/REFERENCE.md.
 
 use crate::raw::Figures;
 use std::fmt;
@@ -54,7 +54,7 @@ pub enum Refusal {
     PatternNotUtf8,
     /// 32: bare `¤`, `*`, `@`, or `E` after a number-part byte.
     PatternReserved,
-    /// 33: not the pattern grammar, quote left open.
+    /// 33: not the pattern grammar, or a quote left open.
     PatternGrammar,
     /// 34: over 15 integer or 9 fraction places.
     TooManyPlaces,
@@ -62,9 +62,9 @@ pub enum Refusal {
     StepTooLarge,
     /// 36: over one percent or permille mark in a subpattern, or the two subpatterns differ in it.
     Marks,
-    /// 40: unknown kind, body cut short, symbol twice.
+    /// 40: symbol record: unknown kind, body cut short, or symbol twice.
     SymbolRecord,
-    /// 41: a body that is not one UTF-8 code point, or is an ASCII digit.
+    /// 41: symbol record: body not one UTF-8 code point, or an ASCII digit.
     SymbolBody,
     /// 50: printing a number with an exponent.
     PrintExponent,
@@ -89,10 +89,18 @@ pub struct Least {
 }
 
 impl Refusal {
-    /// The refusal of a number above 0 and figures the library returned.
-    pub(crate) fn new(number: u32, figures: &Figures) -> Refusal {
+    /// The refusal of a number and figures that a function of [`raw`](crate::raw) returned; `None` where no row of the table has that number.
+    ///
+    /// ```
+    /// use okwazibelu::{Refusal, raw};
+    ///
+    /// let mut figures = [0; 8];
+    /// let number = raw::check(b"one n", &mut figures);
+    /// assert_eq!(Refusal::of(number, &figures), Some(Refusal::PackGrammar(4)));
+    /// ```
+    pub fn of(number: u32, figures: &Figures) -> Option<Refusal> {
         let place = figures[1] as usize;
-        match number {
+        Some(match number {
             10 => Refusal::NumberTooLong,
             11 => Refusal::NumberGrammar,
             12 => Refusal::ExponentAbove14,
@@ -120,8 +128,8 @@ impl Refusal {
             51 => Refusal::AreaTooSmall {
                 needed: figures[1] as usize,
             },
-            _ => unreachable!("the library returns only numbers of the table, not {number}"),
-        }
+            _ => return None,
+        })
     }
 
     /// Refusal 27: a pair of rules, from the check with a number.
@@ -172,17 +180,37 @@ impl Refusal {
             Refusal::PatternTooLong => (30, "pattern over 256 bytes"),
             Refusal::PatternNotUtf8 => (31, "pattern not UTF-8"),
             Refusal::PatternReserved => (32, "bare ¤, *, @, or E after a number-part byte"),
-            Refusal::PatternGrammar => (33, "not the pattern grammar, or quote left open"),
+            Refusal::PatternGrammar => (33, "not the pattern grammar, or a quote left open"),
             Refusal::TooManyPlaces => (34, "over 15 integer or 9 fraction places"),
             Refusal::StepTooLarge => (35, "step above 999,999 units of the last place"),
             Refusal::Marks => (
                 36,
                 "over one percent or permille mark in a subpattern, or the two subpatterns differ in it",
             ),
-            Refusal::SymbolRecord => (40, "unknown kind, body cut short, or symbol twice"),
-            Refusal::SymbolBody => (41, "body not one UTF-8 code point, or an ASCII digit"),
+            Refusal::SymbolRecord => (
+                40,
+                "symbol record: unknown kind, body cut short, or symbol twice",
+            ),
+            Refusal::SymbolBody => (
+                41,
+                "symbol record: body not one UTF-8 code point, or an ASCII digit",
+            ),
             Refusal::PrintExponent => (50, "printing a number with an exponent"),
             Refusal::AreaTooSmall { .. } => (51, "text longer than the output area"),
+        }
+    }
+
+    /// What the row returns besides its number, in the table's order.
+    pub fn figures(&self) -> Vec<u64> {
+        match *self {
+            Refusal::TwoRulesMet { first, second } => vec![first as u64, second as u64],
+            Refusal::Clash {
+                first,
+                second,
+                least: Least { e, v, i, f },
+            } => vec![first as u64, second as u64, e.into(), v.into(), i, f],
+            Refusal::AreaTooSmall { needed } => vec![needed as u64],
+            _ => self.place().map(|place| place as u64).into_iter().collect(),
         }
     }
 
