@@ -43,17 +43,14 @@ fn is_long(ranges: &[usize; 320], from: usize, to: usize) -> bool
 
 // The floors of the clause j: zeros where it is not long.
 fn clause_floors<'a>(
-    operand: &'a [u8; 320],
-    modulus: &'a [u32; 320],
-    negated: &'a [bool; 320],
-    ranges: &'a [usize; 320],
+    columns: &'a [u32; 1280],
     low: &'a [u32; 2048],
     high: &'a [u32; 2048],
     relations: &'a [usize; 40],
     j: usize,
 ) -> Floors
     requires { ⌜ j < 40 ⌝ }
-    ensures { λ r. ⌜ Under (clauseAt (table (now (operand .entry)) (now (modulus .entry)) (now (negated .entry)) (now (ranges .entry)) (now (low .entry)) (now (high .entry))) (now (relations .entry)) j) r ⌝ }
+    ensures { λ r. ⌜ Under (clauseAt (table (now (columns .entry)) (now (low .entry)) (now (high .entry))) (now (relations .entry)) j) r ⌝ }
 {
     let from = joined::relations_start(relations, j);
     let to = joined::relations_stop(relations, j);
@@ -70,7 +67,7 @@ fn clause_floors<'a>(
         start: 0,
         stop: 0,
     };
-    search::floors_of(operand, modulus, negated, ranges, low, high, s)
+    search::floors_of(columns, low, high, s)
 }
 
 fn higher(floors: &[u64; 40], k: usize, l: usize) -> u64
@@ -100,10 +97,7 @@ pub fn pair_floors<'a>(
 
 // Fills in the floors of the first `to` clauses.
 pub fn fill<'a>(
-    operand: &'a [u8; 320],
-    modulus: &'a [u32; 320],
-    negated: &'a [bool; 320],
-    ranges: &'a [usize; 320],
+    columns: &'a [u32; 1280],
     low: &'a [u32; 2048],
     high: &'a [u32; 2048],
     relations: &'a [usize; 40],
@@ -112,12 +106,12 @@ pub fn fill<'a>(
     tail: &mut [u64; 40],
     to: usize,
 )
-    requires { ⌜ (to ≤ 40) × Floored (table (now operand) (now modulus) (now negated) (now ranges) (now low) (now high)) (now relations) (now whole) (now part) (now tail) ⌝ }
-    ensures { λ _. ⌜ Floored (table (now (operand .entry)) (now (modulus .entry)) (now (negated .entry)) (now (ranges .entry)) (now (low .entry)) (now (high .entry))) (now (relations .entry)) (now (whole .exit)) (now (part .exit)) (now (tail .exit)) ⌝ }
+    requires { ⌜ (to ≤ 40) × Floored (table (now columns) (now low) (now high)) (now relations) (now whole) (now part) (now tail) ⌝ }
+    ensures { λ _. ⌜ Floored (table (now (columns .entry)) (now (low .entry)) (now (high .entry))) (now (relations .entry)) (now (whole .exit)) (now (part .exit)) (now (tail .exit)) ⌝ }
 {
     let mut j: usize = 0;
     while j < to {
-        let l = clause_floors(operand, modulus, negated, ranges, low, high, relations, j);
+        let l = clause_floors(columns, low, high, relations, j);
         whole[j] = l.whole;
         part[j] = l.part;
         tail[j] = l.tail;

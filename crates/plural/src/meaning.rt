@@ -126,17 +126,14 @@ fn ranges_stop(ranges: &[usize; 320], j: usize) -> usize
 
 // The relation j holds.
 fn relation_holds<'a>(
-    operand: &'a [u8; 320],
-    modulus: &'a [u32; 320],
-    negated: &'a [bool; 320],
-    ranges: &'a [usize; 320],
+    columns: &'a [u32; 1280],
     low: &'a [u32; 2048],
     high: &'a [u32; 2048],
     j: usize,
     x: Number,
 ) -> bool
     requires { ⌜ j < 320 ⌝ }
-    ensures { λ r. ⌜ r ≡ holds (relationAt (table (now (operand .entry)) (now (modulus .entry)) (now (negated .entry)) (now (ranges .entry)) (now (low .entry)) (now (high .entry))) j) x ⌝ }
+    ensures { λ r. ⌜ r ≡ holds (relationAt (table (now (columns .entry)) (now (low .entry)) (now (high .entry))) j) x ⌝ }
 {
     let o = operand[j];
     if !is_whole(o, x) {
@@ -158,10 +155,7 @@ fn relation_holds<'a>(
 
 // The relations at `from` to before `to` all hold.
 fn clause_holds<'a>(
-    operand: &'a [u8; 320],
-    modulus: &'a [u32; 320],
-    negated: &'a [bool; 320],
-    ranges: &'a [usize; 320],
+    columns: &'a [u32; 1280],
     low: &'a [u32; 2048],
     high: &'a [u32; 2048],
     from: usize,
@@ -169,11 +163,11 @@ fn clause_holds<'a>(
     x: Number,
 ) -> bool
     requires { ⌜ to ≤ 320 ⌝ }
-    ensures { λ r. ⌜ r ≡ clauseHolds (relationsIn (table (now (operand .entry)) (now (modulus .entry)) (now (negated .entry)) (now (ranges .entry)) (now (low .entry)) (now (high .entry))) from to) x ⌝ }
+    ensures { λ r. ⌜ r ≡ clauseHolds (relationsIn (table (now (columns .entry)) (now (low .entry)) (now (high .entry))) from to) x ⌝ }
 {
     let mut j = from;
     while j < to {
-        if !relation_holds(operand, modulus, negated, ranges, low, high, j, x) {
+        if !relation_holds(columns, low, high, j, x) {
             return false;
         }
         j += 1;
@@ -201,10 +195,7 @@ fn relations_stop(relations: &[usize; 40], j: usize) -> usize
 
 // One of the clauses at `from` to before `to` holds.
 pub fn condition_holds<'a>(
-    operand: &'a [u8; 320],
-    modulus: &'a [u32; 320],
-    negated: &'a [bool; 320],
-    ranges: &'a [usize; 320],
+    columns: &'a [u32; 1280],
     low: &'a [u32; 2048],
     high: &'a [u32; 2048],
     relations: &'a [usize; 40],
@@ -213,15 +204,12 @@ pub fn condition_holds<'a>(
     x: Number,
 ) -> bool
     requires { ⌜ to ≤ 40 ⌝ }
-    ensures { λ r. ⌜ r ≡ conditionHolds (clausesIn (table (now (operand .entry)) (now (modulus .entry)) (now (negated .entry)) (now (ranges .entry)) (now (low .entry)) (now (high .entry))) (now (relations .entry)) from to) x ⌝ }
+    ensures { λ r. ⌜ r ≡ conditionHolds (clausesIn (table (now (columns .entry)) (now (low .entry)) (now (high .entry))) (now (relations .entry)) from to) x ⌝ }
 {
     let mut j = from;
     while j < to {
         if clause_holds(
-            operand,
-            modulus,
-            negated,
-            ranges,
+            columns,
             low,
             high,
             relations_start(relations, j),

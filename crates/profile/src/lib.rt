@@ -54,16 +54,13 @@ fn pack_parts(e: u64, v: u64, w: u64, flags: u64) -> u64
 
 // The profile of the relation j, by its letter.
 fn relation_profile<'a>(
-    operand: &'a [u8; 320],
-    modulus: &'a [u32; 320],
-    negated: &'a [bool; 320],
-    ranges: &'a [usize; 320],
+    columns: &'a [u32; 1280],
     low: &'a [u32; 2048],
     high: &'a [u32; 2048],
     j: usize,
 ) -> u64
     requires { ⌜ j < 320 ⌝ }
-    ensures { λ r. ⌜ r ≡ profileOf (relationAt (table (now (operand .entry)) (now (modulus .entry)) (now (negated .entry)) (now (ranges .entry)) (now (low .entry)) (now (high .entry))) j ∷ []) ⌝ }
+    ensures { λ r. ⌜ r ≡ profileOf (relationAt (table (now (columns .entry)) (now (low .entry)) (now (high .entry))) j ∷ []) ⌝ }
 {
     let o = operand[j];
     if o == 110 {
@@ -76,43 +73,40 @@ fn relation_profile<'a>(
         return pack_parts(EACH_E, EACH_PLACE, EACH_PLACE, NEITHER_ASKED);
     }
     if o == 102 {
-        let zero = values::zero_of(operand, modulus, negated, ranges, low, high, j);
+        let zero = values::zero_of(columns, low, high, j);
         return pack_parts(EACH_E, EACH_PLACE, EACH_PLACE, zero + F_ASKED);
     }
     if o == 116 {
-        let zero = values::zero_of(operand, modulus, negated, ranges, low, high, j);
+        let zero = values::zero_of(columns, low, high, j);
         return pack_parts(EACH_E, EACH_PLACE, EACH_PLACE, zero + T_ASKED);
     }
     if o == 118 {
-        let v = values::places_of(operand, modulus, negated, ranges, low, high, j);
+        let v = values::places_of(columns, low, high, j);
         return pack_parts(EACH_E, v, EACH_PLACE, NEITHER_ASKED);
     }
     if o == 119 {
-        let w = values::places_of(operand, modulus, negated, ranges, low, high, j);
+        let w = values::places_of(columns, low, high, j);
         return pack_parts(EACH_E, EACH_PLACE, w, NEITHER_ASKED);
     }
-    let e = values::exponents_of(operand, modulus, negated, ranges, low, high, j);
+    let e = values::exponents_of(columns, low, high, j);
     pack_parts(e, EACH_PLACE, EACH_PLACE, NEITHER_ASKED)
 }
 
 // The profile of the relations from place `from` to before `to`.
 pub fn clause_profile<'a>(
-    operand: &'a [u8; 320],
-    modulus: &'a [u32; 320],
-    negated: &'a [bool; 320],
-    ranges: &'a [usize; 320],
+    columns: &'a [u32; 1280],
     low: &'a [u32; 2048],
     high: &'a [u32; 2048],
     from: usize,
     to: usize,
 ) -> u64
     requires { ⌜ to ≤ 320 ⌝ }
-    ensures { λ r. ⌜ r ≡ profileOf (relationsIn (table (now (operand .entry)) (now (modulus .entry)) (now (negated .entry)) (now (ranges .entry)) (now (low .entry)) (now (high .entry))) from to) ⌝ }
+    ensures { λ r. ⌜ r ≡ profileOf (relationsIn (table (now (columns .entry)) (now (low .entry)) (now (high .entry))) from to) ⌝ }
 {
     let mut p = pack_parts(EACH_E, EACH_PLACE, EACH_PLACE, NEITHER_ASKED);
     let mut j = from;
     while j < to {
-        p = p & relation_profile(operand, modulus, negated, ranges, low, high, j);
+        p = p & relation_profile(columns, low, high, j);
         j += 1;
     }
     p

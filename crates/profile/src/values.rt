@@ -26,23 +26,20 @@ fn with_bit(mask: u64, place: u64, on: bool) -> u64
 
 // The values below n at which the relation j holds.
 fn values_of<'a>(
-    operand: &'a [u8; 320],
-    modulus: &'a [u32; 320],
-    negated: &'a [bool; 320],
-    ranges: &'a [usize; 320],
+    columns: &'a [u32; 1280],
     low: &'a [u32; 2048],
     high: &'a [u32; 2048],
     j: usize,
     n: u64,
 ) -> u64
     requires { ⌜ (j < 320) × (n ≤ 15) ⌝ }
-    ensures { λ r. ⌜ r ≡ valuesOf (test (relationAt (table (now (operand .entry)) (now (modulus .entry)) (now (negated .entry)) (now (ranges .entry)) (now (low .entry)) (now (high .entry))) j)) n ⌝ }
+    ensures { λ r. ⌜ r ≡ valuesOf (test (relationAt (table (now (columns .entry)) (now (low .entry)) (now (high .entry))) j)) n ⌝ }
 {
     let mut mask: u64 = 0;
     let mut place: u64 = 1;
     let mut x: u64 = 0;
     while x < n {
-        let on = holds_of(operand, modulus, negated, ranges, low, high, j, x);
+        let on = holds_of(columns, low, high, j, x);
         mask = with_bit(mask, place, on);
         place *= 2;
         x += 1;
@@ -52,49 +49,40 @@ fn values_of<'a>(
 
 // The e, and the v or w, at which it holds.
 pub fn exponents_of<'a>(
-    operand: &'a [u8; 320],
-    modulus: &'a [u32; 320],
-    negated: &'a [bool; 320],
-    ranges: &'a [usize; 320],
+    columns: &'a [u32; 1280],
     low: &'a [u32; 2048],
     high: &'a [u32; 2048],
     j: usize,
 ) -> u64
     requires { ⌜ j < 320 ⌝ }
-    ensures { λ r. ⌜ (r ≡ valuesOf (test (relationAt (table (now (operand .entry)) (now (modulus .entry)) (now (negated .entry)) (now (ranges .entry)) (now (low .entry)) (now (high .entry))) j)) (suc maxExponent)) × (r < 32_768) ⌝ }
+    ensures { λ r. ⌜ (r ≡ valuesOf (test (relationAt (table (now (columns .entry)) (now (low .entry)) (now (high .entry))) j)) (suc maxExponent)) × (r < 32_768) ⌝ }
 {
-    values_of(operand, modulus, negated, ranges, low, high, j, EXPONENTS)
+    values_of(columns, low, high, j, EXPONENTS)
 }
 
 pub fn places_of<'a>(
-    operand: &'a [u8; 320],
-    modulus: &'a [u32; 320],
-    negated: &'a [bool; 320],
-    ranges: &'a [usize; 320],
+    columns: &'a [u32; 1280],
     low: &'a [u32; 2048],
     high: &'a [u32; 2048],
     j: usize,
 ) -> u64
     requires { ⌜ j < 320 ⌝ }
-    ensures { λ r. ⌜ (r ≡ valuesOf (test (relationAt (table (now (operand .entry)) (now (modulus .entry)) (now (negated .entry)) (now (ranges .entry)) (now (low .entry)) (now (high .entry))) j)) (suc maxPlaces)) × (r < 1_024) ⌝ }
+    ensures { λ r. ⌜ (r ≡ valuesOf (test (relationAt (table (now (columns .entry)) (now (low .entry)) (now (high .entry))) j)) (suc maxPlaces)) × (r < 1_024) ⌝ }
 {
-    values_of(operand, modulus, negated, ranges, low, high, j, PLACES)
+    values_of(columns, low, high, j, PLACES)
 }
 
 // Whether it holds at 0, as a bit.
 pub fn zero_of<'a>(
-    operand: &'a [u8; 320],
-    modulus: &'a [u32; 320],
-    negated: &'a [bool; 320],
-    ranges: &'a [usize; 320],
+    columns: &'a [u32; 1280],
     low: &'a [u32; 2048],
     high: &'a [u32; 2048],
     j: usize,
 ) -> u64
     requires { ⌜ j < 320 ⌝ }
-    ensures { λ r. ⌜ (r ≡ bit (test (relationAt (table (now (operand .entry)) (now (modulus .entry)) (now (negated .entry)) (now (ranges .entry)) (now (low .entry)) (now (high .entry))) j) 0)) × (r ≤ 1) ⌝ }
+    ensures { λ r. ⌜ (r ≡ bit (test (relationAt (table (now (columns .entry)) (now (low .entry)) (now (high .entry))) j) 0)) × (r ≤ 1) ⌝ }
 {
-    if holds_of(operand, modulus, negated, ranges, low, high, j, 0) {
+    if holds_of(columns, low, high, j, 0) {
         1
     } else {
         0

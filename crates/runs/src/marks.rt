@@ -43,10 +43,7 @@ fn mark_digit(q: Query, asked: &mut [bool; 9])
 
 // Marks the level of the relation j, where it is asked, and tells it.
 fn mark_of<'a>(
-    operand: &'a [u8; 320],
-    modulus: &'a [u32; 320],
-    negated: &'a [bool; 320],
-    ranges: &'a [usize; 320],
+    columns: &'a [u32; 1280],
     low: &'a [u32; 2048],
     high: &'a [u32; 2048],
     q: Query,
@@ -55,8 +52,8 @@ fn mark_of<'a>(
 ) -> usize
     requires { ⌜ Fit q ⌝ }
     requires { ⌜ j < 320 ⌝ }
-    ensures { λ r. ⌜ r ≡ tier q (relationAt (table (now (operand .entry)) (now (modulus .entry)) (now (negated .entry)) (now (ranges .entry)) (now (low .entry)) (now (high .entry))) j) ⌝ }
-    ensures { λ _. ⌜ Noted q (relationAt (table (now (operand .entry)) (now (modulus .entry)) (now (negated .entry)) (now (ranges .entry)) (now (low .entry)) (now (high .entry))) j) (now (asked .exit)) ⌝ }
+    ensures { λ r. ⌜ r ≡ tier q (relationAt (table (now (columns .entry)) (now (low .entry)) (now (high .entry))) j) ⌝ }
+    ensures { λ _. ⌜ Noted q (relationAt (table (now (columns .entry)) (now (low .entry)) (now (high .entry))) j) (now (asked .exit)) ⌝ }
     ensures { λ _. ⌜ Grown (now (asked .entry)) (now (asked .exit)) ⌝ }
 {
     let s = relation::factor_of(q, operand[j]);
@@ -70,10 +67,7 @@ fn mark_of<'a>(
 
 // Marks the levels that the clause asks, and tells that of each relation.
 pub fn mark_levels<'a>(
-    operand: &'a [u8; 320],
-    modulus: &'a [u32; 320],
-    negated: &'a [bool; 320],
-    ranges: &'a [usize; 320],
+    columns: &'a [u32; 1280],
     low: &'a [u32; 2048],
     high: &'a [u32; 2048],
     s: Span,
@@ -83,16 +77,16 @@ pub fn mark_levels<'a>(
 )
     requires { ⌜ Fit q ⌝ }
     requires { ⌜ (s .to ≤ 320) × (s .stop ≤ 320) × (sizeOf s ≤ 16) × (length (now tiers) ≡ 16) ⌝ }
-    ensures { λ _. ⌜ Told (table (now (operand .entry)) (now (modulus .entry)) (now (negated .entry)) (now (ranges .entry)) (now (low .entry)) (now (high .entry))) s q (now (tiers .exit)) ⌝ }
-    ensures { λ _. ⌜ ((j : ℕ) → j < 9 → getD (now (asked .exit)) j false ≡ false → (x : ℕ) → own q (joinedIn (table (now (operand .entry)) (now (modulus .entry)) (now (negated .entry)) (now (ranges .entry)) (now (low .entry)) (now (high .entry))) s) j x ≡ true) ⌝ }
-    ensures { λ _. ⌜ (getD (now (asked .exit)) 8 false ≡ false → levelled q (joinedIn (table (now (operand .entry)) (now (modulus .entry)) (now (negated .entry)) (now (ranges .entry)) (now (low .entry)) (now (high .entry))) s) ≡ true) ⌝ }
+    ensures { λ _. ⌜ Told (table (now (columns .entry)) (now (low .entry)) (now (high .entry))) s q (now (tiers .exit)) ⌝ }
+    ensures { λ _. ⌜ ((j : ℕ) → j < 9 → getD (now (asked .exit)) j false ≡ false → (x : ℕ) → own q (joinedIn (table (now (columns .entry)) (now (low .entry)) (now (high .entry))) s) j x ≡ true) ⌝ }
+    ensures { λ _. ⌜ (getD (now (asked .exit)) 8 false ≡ false → levelled q (joinedIn (table (now (columns .entry)) (now (low .entry)) (now (high .entry))) s) ≡ true) ⌝ }
 {
     mark_digit(q, asked);
     let size = clause::size_of(s);
     let mut k = 0;
     while k < size {
         let j = clause::place_of(s, k);
-        tiers[k] = mark_of(operand, modulus, negated, ranges, low, high, q, j, asked);
+        tiers[k] = mark_of(columns, low, high, q, j, asked);
         k += 1;
     }
 }

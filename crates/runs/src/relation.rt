@@ -58,17 +58,14 @@ fn turned(b: bool, negated: bool) -> bool
 
 // What the relation j says of the remainder y, or of the value y where it has no modulus.
 fn listed_run<'a>(
-    operand: &'a [u8; 320],
-    modulus: &'a [u32; 320],
-    negated: &'a [bool; 320],
-    ranges: &'a [usize; 320],
+    columns: &'a [u32; 1280],
     low: &'a [u32; 2048],
     high: &'a [u32; 2048],
     j: usize,
     y: u64,
 ) -> Run
     requires { ⌜ (j < 320) × (y ≤ cap) ⌝ }
-    ensures { λ r. ⌜ Alike (listed (relationAt (table (now (operand .entry)) (now (modulus .entry)) (now (negated .entry)) (now (ranges .entry)) (now (low .entry)) (now (high .entry))) j)) y (r .says) (r .stop) ⌝ }
+    ensures { λ r. ⌜ Alike (listed (relationAt (table (now (columns .entry)) (now (low .entry)) (now (high .entry))) j)) y (r .says) (r .stop) ⌝ }
     ensures { λ r. ⌜ r .stop ≤ far ⌝ }
 {
     let from = start_at(ranges, j);
@@ -82,20 +79,17 @@ fn listed_run<'a>(
 
 // Whether it holds of the value x.
 pub fn holds_of<'a>(
-    operand: &'a [u8; 320],
-    modulus: &'a [u32; 320],
-    negated: &'a [bool; 320],
-    ranges: &'a [usize; 320],
+    columns: &'a [u32; 1280],
     low: &'a [u32; 2048],
     high: &'a [u32; 2048],
     j: usize,
     x: u64,
 ) -> bool
     requires { ⌜ (x ≤ cap) × (j < 320) ⌝ }
-    ensures { λ r. ⌜ r ≡ test (relationAt (table (now (operand .entry)) (now (modulus .entry)) (now (negated .entry)) (now (ranges .entry)) (now (low .entry)) (now (high .entry))) j) x ⌝ }
+    ensures { λ r. ⌜ r ≡ test (relationAt (table (now (columns .entry)) (now (low .entry)) (now (high .entry))) j) x ⌝ }
 {
     let y = remainder(x, range::wide(modulus[j]));
-    let r = listed_run(operand, modulus, negated, ranges, low, high, j, y);
+    let r = listed_run(columns, low, high, j, y);
     r.says
 }
 
@@ -178,10 +172,7 @@ fn upwards_by(y: u64, s: u64) -> u64
 
 // What the relation j, which is asked, asks of p at its level.
 pub fn own_run<'a>(
-    operand: &'a [u8; 320],
-    modulus: &'a [u32; 320],
-    negated: &'a [bool; 320],
-    ranges: &'a [usize; 320],
+    columns: &'a [u32; 1280],
     low: &'a [u32; 2048],
     high: &'a [u32; 2048],
     q: Query,
@@ -191,12 +182,12 @@ pub fn own_run<'a>(
 ) -> Run
     requires { ⌜ Fit q ⌝ }
     requires { ⌜ Room q p ⌝ }
-    requires { ⌜ (j < 320) × (level < 9) × (level ≡ tier q (relationAt (table (now operand) (now modulus) (now negated) (now ranges) (now low) (now high)) j)) ⌝ }
-    ensures { λ r. ⌜ Alike (ownOne q level (relationAt (table (now (operand .entry)) (now (modulus .entry)) (now (negated .entry)) (now (ranges .entry)) (now (low .entry)) (now (high .entry))) j)) p (r .says) (r .stop) ⌝ }
+    requires { ⌜ (j < 320) × (level < 9) × (level ≡ tier q (relationAt (table (now columns) (now low) (now high)) j)) ⌝ }
+    ensures { λ r. ⌜ Alike (ownOne q level (relationAt (table (now (columns .entry)) (now (low .entry)) (now (high .entry))) j)) p (r .says) (r .stop) ⌝ }
     ensures { λ r. ⌜ r .stop ≤ far ⌝ }
 {
     let s = asked_factor(q, operand[j]);
-    let r = listed_run(operand, modulus, negated, ranges, low, high, j, p * s);
+    let r = listed_run(columns, low, high, j, p * s);
     Run {
         says: r.says,
         stop: upwards_by(r.stop, s),
@@ -205,10 +196,7 @@ pub fn own_run<'a>(
 
 // Whether x passes what the relation j asks of it.
 pub fn passes_of<'a>(
-    operand: &'a [u8; 320],
-    modulus: &'a [u32; 320],
-    negated: &'a [bool; 320],
-    ranges: &'a [usize; 320],
+    columns: &'a [u32; 1280],
     low: &'a [u32; 2048],
     high: &'a [u32; 2048],
     q: Query,
@@ -216,11 +204,11 @@ pub fn passes_of<'a>(
     x: u64,
 ) -> bool
     requires { ⌜ Room q x × (j < 320) ⌝ }
-    ensures { λ r. ⌜ r ≡ passes q (relationAt (table (now (operand .entry)) (now (modulus .entry)) (now (negated .entry)) (now (ranges .entry)) (now (low .entry)) (now (high .entry))) j) x ⌝ }
+    ensures { λ r. ⌜ r ≡ passes q (relationAt (table (now (columns .entry)) (now (low .entry)) (now (high .entry))) j) x ⌝ }
 {
     let s = factor_of(q, operand[j]);
     if s == 0 {
         return true;
     }
-    holds_of(operand, modulus, negated, ranges, low, high, j, x * s)
+    holds_of(columns, low, high, j, x * s)
 }

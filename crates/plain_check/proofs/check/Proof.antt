@@ -27,7 +27,7 @@ returns : tie.Need-returns
 returns c =
     let a = c .before .before .before .before .before .before .before .before .before .before .before .before .args in
     let n = c .before .rule-count in
-    held-by clauses-clash (lent (a .low .now) (a .high .now) (a .operand .now) (a .modulus .now) (a .negated .now) (a .ranges .now) (a .relations .now) (a .keyword .now) (a .clauses .now) (a .count)) (n .result) (c .first-pair .result)
+    held-by clauses-clash (lent (a .low .now) (a .high .now) (a .columns .now) (a .relations .now) (a .keyword .now) (a .clauses .now) (a .count)) (n .result) (c .first-pair .result)
     (record {
       low = c .before .before .before .before .before .before .before .sized-arg5 .given .0;
       high = c .before .before .before .before .before .before .sized-arg6 .given .0;

@@ -22,7 +22,7 @@ sized-requires c κs = search needs
 abbrev pack : (m : tie.After-met-mask) → Pack
 pack m =
     let a = m .before .before .before .before .before .before .before .before .before .before .before .args in
-    lent (a .low .now) (a .high .now) (a .operand .now) (a .modulus .now) (a .negated .now) (a .ranges .now) (a .relations .now) (a .keyword .now) (a .clauses .now) (a .count)
+    lent (a .low .now) (a .high .now) (a .columns .now) (a .relations .now) (a .keyword .now) (a .clauses .now) (a .count)
 
 declared : (m : tie.After-met-mask) → Sized (pack m)
 declared m =

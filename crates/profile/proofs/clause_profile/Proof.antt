@@ -11,16 +11,16 @@ use Rattle.profile.proofs.clause_profile.Statement.{statement}
 use Rattle.profile.proofs.clause_profile.Tie as tie
 
 abbrev Inv-loop : tie.InvT-loop
-Inv-loop operand modulus negated ranges low high from to p₀ j₀ p j = (from ≤ j) × ((j ≤ to) ⊎ (j ≡ from)) × (p ≡ profileOf (relationsIn (table operand modulus negated ranges low high) from j))
+Inv-loop columns low high from to p₀ j₀ p j = (from ≤ j) × ((j ≤ to) ⊎ (j ≡ from)) × (p ≡ profileOf (relationsIn (table columns low high) from j))
 
 abbrev μ-loop : tie.MeasureT-loop
-μ-loop operand modulus negated ranges low high from to p₀ j₀ p j = to - j
+μ-loop columns low high from to p₀ j₀ p j = to - j
 
 pack-parts-requires : tie.Need-pack-parts-requires Inv-loop μ-loop
 pack-parts-requires c κs = search needs
 
 loop-holds : tie.Need-loop-holds Inv-loop μ-loop
-loop-holds c = let a = c .before .args in let T = table (a .operand .now) (a .modulus .now) (a .negated .now) (a .ranges .now) (a .low .now) (a .high .now) in (omega arith, inr refl, met-none T (a .from) (a .from) _ refl (c .pack-parts .ensures))
+loop-holds c = let a = c .before .args in let T = table (a .columns .now) (a .low .now) (a .high .now) in (omega arith, inr refl, met-none T (a .from) (a .from) _ refl (c .pack-parts .ensures))
 
 relation-profile-requires : tie.Need-relation-profile-requires Inv-loop μ-loop
 relation-profile-requires c κs = omega (arith, c .before .before .before .pre, c .loop-test .taken)
@@ -32,10 +32,10 @@ loop-less : tie.Need-loop-less Inv-loop μ-loop
 loop-less c = omega (arith, c .before .loop-test .taken)
 
 loop-again : tie.Need-loop-again Inv-loop μ-loop
-loop-again c = let a = c .before .before .before .before .args in let T = table (a .operand .now) (a .modulus .now) (a .negated .now) (a .ranges .now) (a .low .now) (a .high .now) in let l = c .before .before .loop in (omega (arith, l .inv .0), inl (omega (arith, c .before .loop-test .taken)), met-more T (a .from) (l .j) (l .p) (c .relation-profile .result) _ (l .inv .0) (l .inv .2) (c .relation-profile .ensures) refl)
+loop-again c = let a = c .before .before .before .before .args in let T = table (a .columns .now) (a .low .now) (a .high .now) in let l = c .before .before .loop in (omega (arith, l .inv .0), inl (omega (arith, c .before .loop-test .taken)), met-more T (a .from) (l .j) (l .p) (c .relation-profile .result) _ (l .inv .0) (l .inv .2) (c .relation-profile .ensures) refl)
 
 returns : tie.Need-returns Inv-loop μ-loop
-returns c = let a = c .before .before .before .args in let T = table (a .operand .now) (a .modulus .now) (a .negated .now) (a .ranges .now) (a .low .now) (a .high .now) in let l = c .before .loop in met-all T (a .from) (a .to) (l .j) (l .p) (l .inv .0) (c .loop-test .left) (l .inv .1) (l .inv .2)
+returns c = let a = c .before .before .before .args in let T = table (a .columns .now) (a .low .now) (a .high .now) in let l = c .before .loop in met-all T (a .from) (a .to) (l .j) (l .p) (l .inv .0) (c .loop-test .left) (l .inv .1) (l .inv .2)
 
 pub clause-profile-spec : {M : Type 1} → statement M
 clause-profile-spec =

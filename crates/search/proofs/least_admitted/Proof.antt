@@ -11,10 +11,10 @@ within-requires : tie.Need-within-requires
 within-requires c κs = search needs
 
 clause-spot-requires : tie.Need-clause-spot-requires
-clause-spot-requires c κs = let a = c .before .args in let T = table (a .operand .now) (a .modulus .now) (a .negated .now) (a .ranges .now) (a .low .now) (a .high .now) in ((c .before .pre .0, c .before .pre .1, c .before .pre .3), c .within .ensures (joinedIn T (a .s)) (c .before .pre .2))
+clause-spot-requires c κs = let a = c .before .args in let T = table (a .columns .now) (a .low .now) (a .high .now) in ((c .before .pre .0, c .before .pre .1, c .before .pre .3), c .within .ensures (joinedIn T (a .s)) (c .before .pre .2))
 
 returns : tie.Need-returns
-returns c = let a = c .before .before .args in let T = table (a .operand .now) (a .modulus .now) (a .negated .now) (a .ranges .now) (a .low .now) (a .high .now) in (bounded-least (a .b) (joinedIn T (a .s)) (spotRank (c .clause-spot .result)) (c .clause-spot .ensures .0), c .clause-spot .ensures .1)
+returns c = let a = c .before .before .args in let T = table (a .columns .now) (a .low .now) (a .high .now) in (bounded-least (a .b) (joinedIn T (a .s)) (spotRank (c .clause-spot .result)) (c .clause-spot .ensures .0), c .clause-spot .ensures .1)
 
 pub least-admitted-spec : {M : Type 1} → statement M
 least-admitted-spec = tie.close (tie.spec within-requires clause-spot-requires returns)

@@ -11,11 +11,11 @@ use Rattle.plural.proofs.meaning.clause_holds.Statement.{statement}
 use Rattle.plural.proofs.meaning.clause_holds.Tie as tie
 
 abbrev Inv-loop : tie.InvT-loop
-Inv-loop operand modulus negated ranges low high from to x j₀ j =
-    clauseHolds (relationsIn (table operand modulus negated ranges low high) j to) x ≡ clauseHolds (relationsIn (table operand modulus negated ranges low high) from to) x
+Inv-loop columns low high from to x j₀ j =
+    clauseHolds (relationsIn (table columns low high) j to) x ≡ clauseHolds (relationsIn (table columns low high) from to) x
 
 abbrev μ-loop : tie.MeasureT-loop
-μ-loop operand modulus negated ranges low high from to x j₀ j = to - j
+μ-loop columns low high from to x j₀ j = to - j
 
 loop-holds : tie.Need-loop-holds Inv-loop μ-loop
 loop-holds c = search needs
@@ -27,7 +27,7 @@ returns : tie.Need-returns Inv-loop μ-loop
 returns c =
     let l = c .before .before .before in
     let a = l .before .args in
-    let T = table (a .operand .now) (a .modulus .now) (a .negated .now) (a .ranges .now) (a .low .now) (a .high .now) in
+    let T = table (a .columns .now) (a .low .now) (a .high .now) in
     let h = c .before .relation-holds in
     sym (sym (l .loop .inv) ∙ all-failed (λ (r : Relation). holds r (a .x)) (relationAt T) (l .loop .j) (a .to) (c .before .before .loop-test .taken) (sym (h .ensures) ∙ not-true (h .result) (c .if1 .taken)))
 
@@ -41,7 +41,7 @@ loop-again : tie.Need-loop-again Inv-loop μ-loop
 loop-again c =
     let l = c .before .before .before in
     let a = l .before .args in
-    let T = table (a .operand .now) (a .modulus .now) (a .negated .now) (a .ranges .now) (a .low .now) (a .high .now) in
+    let T = table (a .columns .now) (a .low .now) (a .high .now) in
     let h = c .before .relation-holds in
     sym (all-next (λ (r : Relation). holds r (a .x)) (relationAt T) (l .loop .j) (a .to) (c .before .before .loop-test .taken) (sym (h .ensures) ∙ not-false (h .result) (c .if1 .left))) ∙ l .loop .inv
 
@@ -49,7 +49,7 @@ returns-2 : tie.Need-returns-2 Inv-loop μ-loop
 returns-2 c =
     let l = c .before in
     let a = l .before .args in
-    let T = table (a .operand .now) (a .modulus .now) (a .negated .now) (a .ranges .now) (a .low .now) (a .high .now) in
+    let T = table (a .columns .now) (a .low .now) (a .high .now) in
     sym (sym (l .loop .inv) ∙ all-passed (λ (r : Relation). holds r (a .x)) (relationAt T) (l .loop .j) (a .to) (c .loop-test .left))
 
 pub clause-holds-spec : {M : Type 1} → statement M

@@ -21,7 +21,7 @@ element-copy-out-result c = search needs
 returns : tie.Need-returns
 returns c =
     let a = c .before .before .before .before .args in
-    let r = relationAt (table (a .operand .now) (a .modulus .now) (a .negated .now) (a .ranges .now) (a .low .now) (a .high .now)) (a .j) in
+    let r = relationAt (table (a .columns .now) (a .low .now) (a .high .now)) (a .j) in
     let w = c .before .before .is-whole in
     not-whole r (a .x) (sym (w .ensures) ∙ not-true (w .result) (c .before .if1 .taken))
 
@@ -55,7 +55,7 @@ element-copy-out-if2 c = search needs
 returns-2 : tie.Need-returns-2
 returns-2 c =
     let a = c .before .before .before .before .before .before .before .before .before .before .before .before .args in
-    let r = relationAt (table (a .operand .now) (a .modulus .now) (a .negated .now) (a .ranges .now) (a .low .now) (a .high .now)) (a .j) in
+    let r = relationAt (table (a .columns .now) (a .low .now) (a .high .now)) (a .j) in
     let w = c .before .before .before .before .before .before .before .before .before .before .is-whole in
     let q = c .before .before .in-ranges in
     let k = listed r (a .x) (q .result) (sym (w .ensures) ∙ not-false (w .result) (c .before .before .before .before .before .before .before .before .before .if1 .left)) (q .ensures ∙ rw (c .before .before .before .before .before .remainder .ensures, c .before .before .before .before .before .before .before .before .operand-value .ensures, c .before .before .before .before .before .before .wide32 .ensures, c .before .before .before .before .ranges-start .ensures, c .before .before .before .ranges-stop .ensures)) in
@@ -64,7 +64,7 @@ returns-2 c =
 returns-3 : tie.Need-returns-3
 returns-3 c =
     let a = c .before .before .before .before .before .before .before .before .before .before .before .before .args in
-    let r = relationAt (table (a .operand .now) (a .modulus .now) (a .negated .now) (a .ranges .now) (a .low .now) (a .high .now)) (a .j) in
+    let r = relationAt (table (a .columns .now) (a .low .now) (a .high .now)) (a .j) in
     let w = c .before .before .before .before .before .before .before .before .before .before .is-whole in
     let q = c .before .before .in-ranges in
     let k = listed r (a .x) (q .result) (sym (w .ensures) ∙ not-false (w .result) (c .before .before .before .before .before .before .before .before .before .if1 .left)) (q .ensures ∙ rw (c .before .before .before .before .before .remainder .ensures, c .before .before .before .before .before .before .before .before .operand-value .ensures, c .before .before .before .before .before .before .wide32 .ensures, c .before .before .before .before .ranges-start .ensures, c .before .before .before .ranges-stop .ensures)) in

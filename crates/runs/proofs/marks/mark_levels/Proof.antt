@@ -11,12 +11,12 @@ use Rattle.runs.proofs.marks.mark_levels.Statement.{statement}
 use Rattle.runs.proofs.marks.mark_levels.Tie as tie
 
 abbrev Inv-loop : tie.InvT-loop
-Inv-loop operand modulus negated ranges low high s q asked₀ tiers₀ size k₀ asked tiers k =
-    let T = table operand modulus negated ranges low high in
+Inv-loop columns low high s q asked₀ tiers₀ size k₀ asked tiers k =
+    let T = table columns low high in
     Marks T s q k asked × (size ≡ sizeOf s) × Telling T s q k tiers
 
 abbrev μ-loop : tie.MeasureT-loop
-μ-loop operand modulus negated ranges low high s q asked₀ tiers₀ size k₀ asked tiers k = size - k
+μ-loop columns low high s q asked₀ tiers₀ size k₀ asked tiers k = size - k
 
 mark-digit-requires : tie.Need-mark-digit-requires Inv-loop μ-loop
 mark-digit-requires c κs = search needs
@@ -27,7 +27,7 @@ size-of-requires c κs = search needs
 loop-holds : tie.Need-loop-holds Inv-loop μ-loop
 loop-holds c =
     let a = c .before .before .before .args in
-    let T = table (a .operand .now) (a .modulus .now) (a .negated .now) (a .ranges .now) (a .low .now) (a .high .now) in
+    let T = table (a .columns .now) (a .low .now) (a .high .now) in
     (marks-start T (a .s) (a .q) (c .before .mark-digit .last .1 .0) (c .before .mark-digit .ensures), c .size-of .ensures, telling-start T (a .s) (a .q) (a .tiers .now) (c .before .before .before .pre .1 .3))
 
 place-of-requires : tie.Need-place-of-requires Inv-loop μ-loop
@@ -51,14 +51,14 @@ loop-less c = search needs
 loop-again : tie.Need-loop-again Inv-loop μ-loop
 loop-again c =
     let a = c .before .before .before .before .before .before .before .before .args in
-    let T = table (a .operand .now) (a .modulus .now) (a .negated .now) (a .ranges .now) (a .low .now) (a .high .now) in
+    let T = table (a .columns .now) (a .low .now) (a .high .now) in
     let l = c .before .before .before .before .loop in
     (marks-more T (a .s) (a .q) (l .k) (l .asked) (c .mark-of .last .1 .1 .1 .1 .1 .1 .1 .1 .0) (omega (arith, l .inv .1, c .before .before .before .loop-test .taken)) (l .inv .0) (subst (λ (j : ℕ). Noted (a .q) (relationAt T j) (c .mark-of .last .1 .1 .1 .1 .1 .1 .1 .1 .0)) (c .before .before .place-of .ensures .0) (c .mark-of .ensures .1 .0)) (c .mark-of .ensures .1 .1), l .inv .1, telling-more T (a .s) (a .q) (l .k) (c .mark-of .result) (l .tiers) (omega (arith, l .inv .1, c .before .before .before .loop-test .taken, c .before .before .before .before .before .before .before .before .pre .1 .2)) (l .inv .2) (subst (λ (j : ℕ). c .mark-of .result ≡ tier (a .q) (relationAt T j)) (c .before .before .place-of .ensures .0) (c .mark-of .ensures .0)))
 
 returns : tie.Need-returns Inv-loop μ-loop
 returns c =
     let a = c .before .before .before .before .before .args in
-    let T = table (a .operand .now) (a .modulus .now) (a .negated .now) (a .ranges .now) (a .low .now) (a .high .now) in
+    let T = table (a .columns .now) (a .low .now) (a .high .now) in
     let l = c .before .loop in
     let h : sizeOf (a .s) ≤ l .k = omega (arith, l .inv .1, c .loop-test .left) in
     (telling-done T (a .s) (a .q) (l .k) (l .tiers) h (l .inv .2), (λ j m e x. marks-own T (a .s) (a .q) (l .k) (l .asked) h (l .inv .0) j e x, λ e. marks-levelled T (a .s) (a .q) (l .k) (l .asked) h (l .inv .0) e))

@@ -16,7 +16,7 @@ factor-of-requires c κs = search needs
 returns : tie.Need-returns
 returns c =
     let a = c .before .before .before .args in
-    let T = table (a .operand .now) (a .modulus .now) (a .negated .now) (a .ranges .now) (a .low .now) (a .high .now) in
+    let T = table (a .columns .now) (a .low .now) (a .high .now) in
     (tier-unasked (a .q) (relationAt T (a .j)) (c .before .factor-of .result) (c .before .factor-of .ensures) (c .if1 .taken), (noted-not (a .q) (relationAt T (a .j)) (c .before .factor-of .result) (c .before .factor-of .ensures) (a .asked .now) (c .if1 .taken), λ i h. h))
 
 mul-wide : tie.Need-mul-wide
@@ -39,7 +39,7 @@ mark-requires c κs = search needs
 returns-2 : tie.Need-returns-2
 returns-2 c =
     let a = c .before .before .before .before .before .before .before .before .args in
-    let T = table (a .operand .now) (a .modulus .now) (a .negated .now) (a .ranges .now) (a .low .now) (a .high .now) in
+    let T = table (a .columns .now) (a .low .now) (a .high .now) in
     (tier-asked (a .q) (relationAt T (a .j)) (c .before .before .before .before .before .before .factor-of .result) (c .before .before .before .before .before .before .factor-of .ensures) (c .before .before .level-of .result) (c .before .before .before .before .before .if1 .left) (rw (c .before .before .before .wide .ensures) at (c .before .before .level-of .ensures .0)), (noted-at (a .q) (relationAt T (a .j)) (c .before .before .before .before .before .before .factor-of .result) (c .before .before .before .before .before .before .factor-of .ensures) (c .mark .last .0) (c .before .before .level-of .result) (rw (c .before .before .before .wide .ensures) at (c .before .before .level-of .ensures .0)) (c .mark .ensures .0), c .mark .ensures .1))
 
 pub mark-of-spec : {M : Type 1} → statement M

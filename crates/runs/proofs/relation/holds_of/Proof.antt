@@ -27,7 +27,7 @@ listed-run-requires c κs =
 returns : tie.Need-returns
 returns c =
     let a = c .before .before .before .before .args in
-    let T = table (a .operand .now) (a .modulus .now) (a .negated .now) (a .ranges .now) (a .low .now) (a .high .now) in
+    let T = table (a .columns .now) (a .low .now) (a .high .now) in
     listed-test (relationAt T (a .j)) (a .x) (c .before .remainder .result) (c .listed-run .result .stop) (c .listed-run .result .says) (rw (c .before .before .wide .ensures) at (c .before .remainder .ensures)) (c .listed-run .ensures .0)
 
 pub holds-of-spec : {M : Type 1} → statement M

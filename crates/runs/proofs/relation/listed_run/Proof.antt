@@ -25,7 +25,7 @@ turned-requires c κs = search needs
 returns : tie.Need-returns
 returns c =
     let a = c .before .before .before .before .before .args in
-    let T = table (a .operand .now) (a .modulus .now) (a .negated .now) (a .ranges .now) (a .low .now) (a .high .now) in
+    let T = table (a .columns .now) (a .low .now) (a .high .now) in
     (listed-run (relationAt T (a .j)) (c .turned .result) (rangesIn (a .low .now) (a .high .now) (c .before .before .before .before .start-at .result) (c .before .before .before .stop-at .result)) (ap₂ (λ (u v : ℕ). rangesIn (a .low .now) (a .high .now) u v) (c .before .before .before .before .start-at .ensures) (c .before .before .before .stop-at .ensures)) (c .before .before .range-run .ensures .0) (c .turned .ensures), c .before .before .range-run .ensures .1)
 
 pub listed-run-spec : {M : Type 1} → statement M

@@ -17,7 +17,7 @@ factor-of-requires c κs = search needs
 returns : tie.Need-returns
 returns c =
     let a = c .before .before .before .args in
-    let T = table (a .operand .now) (a .modulus .now) (a .negated .now) (a .ranges .now) (a .low .now) (a .high .now) in
+    let T = table (a .columns .now) (a .low .now) (a .high .now) in
     passes-unasked (a .q) (relationAt T (a .j)) (c .before .factor-of .result) (c .before .factor-of .ensures) (a .x) (c .if1 .taken)
 
 mul-holds-of : tie.Need-mul-holds-of
@@ -33,7 +33,7 @@ holds-of-requires c κs =
 returns-2 : tie.Need-returns-2
 returns-2 c =
     let a = c .before .before .before .before .args in
-    let T = table (a .operand .now) (a .modulus .now) (a .negated .now) (a .ranges .now) (a .low .now) (a .high .now) in
+    let T = table (a .columns .now) (a .low .now) (a .high .now) in
     passes-asked (a .q) (relationAt T (a .j)) (c .before .before .factor-of .result) (c .before .before .factor-of .ensures) (a .x) (c .holds-of .result) (c .before .if1 .left) (c .holds-of .ensures)
 
 pub passes-of-spec : {M : Type 1} → statement M
