@@ -11,7 +11,7 @@ use lib.Seq.{set-out, take-suc-set, take-set-lt, length-take-le, set-append-seam
 use borrow.Author.Tests.{lt-ltb}
 use Rattle.answer.specs.declared.Keyword.{Keyword}
 use Rattle.rules.specs.Syntax.{Range, Relation, Rule}
-use Rattle.rules.specs.Held.{Row, rowsOf, endsIn, parts, keywordOf, rangesFrom, relationsFrom, rulesFrom, heldRelations, heldRules}
+use Rattle.rules.specs.Held.{Row, rowsOf, rowEnds, parts, keywordOf, rangesFrom, relationsFrom, rulesFrom, heldRelations, heldRules}
 use Rattle.grammar.specs.Limits.{maxBytes}
 use Rattle.walk.specs.Steps.{moreOf}
 use Rattle.pack.specs.Bounds.{flat}
@@ -118,7 +118,7 @@ rows-snoc a (q ∷ rs) r =
         → a + length (q .ranges) + length (flat (map (λ (r : Relation). r .ranges) rs)) ≡ a + length (q .ranges ++ flat (map (λ (r : Relation). r .ranges) rs))
     go e = omega arith
 
-ends-rows : (a : ℕ) (rs : List Relation) (ws : List Row) → endsIn (rowsFor a rs ++ ws) ≡ endsOf a (map (λ (r : Relation). r .ranges) rs) ++ endsIn ws
+ends-rows : (a : ℕ) (rs : List Relation) (ws : List Row) → rowEnds (rowsFor a rs ++ ws) ≡ endsOf a (map (λ (r : Relation). r .ranges) rs) ++ rowEnds ws
 ends-rows a [] ws = refl
 ends-rows a (r ∷ rs) ws = ap (λ (l : List ℕ). (a + length (r .ranges)) ∷ l) (ends-rows (a + length (r .ranges)) rs ws)
 
@@ -223,10 +223,10 @@ held-back a n m k r ks rules cs rels rs h1 h2 h3 h4 e1 e2 e3 e4 =
     let g1 : rangesFrom (a .low) (a .high) ≡ rs ++ g .0 = ap (λ l. rangesFrom l (a .high)) (front (a .low) n _ (h1 .lows)) ∙ ap (rangesFrom (map (λ (r : Range). r .low) rs ++ drop n (a .low))) (front (a .high) n _ (h1 .highs)) ∙ g .1 in
     let ws = drop m (rowsOf (a .columns)) in
     let w : rowsOf (a .columns) ≡ rowsFor 0 rels ++ ws = front (rowsOf (a .columns)) m _ (h2 .rows) in
-    let p = parts-are (map (λ (r : Relation). r .ranges) rels) (endsIn ws) [] (g .0) in
-    let p1 : parts 0 (endsIn (rowsOf (a .columns))) (rangesFrom (a .low) (a .high)) ≡ map (λ (r : Relation). r .ranges) rels ++ p .0 =
-    ap (parts 0 (endsIn (rowsOf (a .columns)))) (g1 ∙ ap (λ l. l ++ g .0) e1)
-    ∙ ap (λ l. parts 0 l (flat (map (λ (r : Relation). r .ranges) rels) ++ g .0)) (ap endsIn w ∙ ends-rows 0 rels ws) ∙ p .1 in
+    let p = parts-are (map (λ (r : Relation). r .ranges) rels) (rowEnds ws) [] (g .0) in
+    let p1 : parts 0 (rowEnds (rowsOf (a .columns))) (rangesFrom (a .low) (a .high)) ≡ map (λ (r : Relation). r .ranges) rels ++ p .0 =
+    ap (parts 0 (rowEnds (rowsOf (a .columns)))) (g1 ∙ ap (λ l. l ++ g .0) e1)
+    ∙ ap (λ l. parts 0 l (flat (map (λ (r : Relation). r .ranges) rels) ++ g .0)) (ap rowEnds w ∙ ends-rows 0 rels ws) ∙ p .1 in
     let q = relations-back 0 rels ws (p .0) in
     let q1 : heldRelations (packOf a r) ≡ rels ++ q .0 = ap (relationsFrom (rowsOf (a .columns))) p1 ∙ ap (λ l. relationsFrom l (map (λ (r : Relation). r .ranges) rels ++ p .0)) w ∙ q .1 in
     let c = parts-are cs (drop k (a .relations)) [] (q .0) in

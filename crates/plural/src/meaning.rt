@@ -2,11 +2,11 @@
 ghost use mathlib.Core.Path.{_≡_};
 ghost use Prim.Native.Nat.{_%_, _≤_, _<_, min};
 ghost use lib.ListN.{getD};
-ghost use Rattle.rules.specs.Stretch.{startAt, rangesIn, table, relationAt, relationsIn, clauseAt, clausesIn};
+ghost use Rattle.rules.specs.Stretch.{startAt, rangesIn, relationOf, table, relationsIn, clausesIn};
 ghost use Rattle.plural.specs.Meaning.{any, inRange, operandValue, isWhole, holds, clauseHolds, conditionHolds};
 use number::Number;
-
-const MAX_RANGES: usize = 2048;
+use rules::Single;
+use rules::single_at;
 
 const MAX_RELATIONS: usize = 320;
 
@@ -38,7 +38,7 @@ pub fn lesser(a: usize, b: usize) -> usize
     if a < b { a } else { b }
 }
 
-fn operand_value(o: u8, x: Number) -> u64
+fn operand_value(o: u32, x: Number) -> u64
     ensures { λ r. ⌜ r ≡ operandValue o x ⌝ }
 {
     if o == 110 {
@@ -66,7 +66,7 @@ fn operand_value(o: u8, x: Number) -> u64
     wide8(x.e)
 }
 
-fn is_whole(o: u8, x: Number) -> bool
+fn is_whole(o: u32, x: Number) -> bool
     ensures { λ r. ⌜ r ≡ isWhole o x ⌝ }
 {
     if o == 110 {
@@ -106,48 +106,22 @@ fn in_ranges<'a>(
     false
 }
 
-// Where the relation j's ranges begin, and where they end.
-fn ranges_start(ranges: &[usize; 320], j: usize) -> usize
-    requires { ⌜ j < 320 ⌝ }
-    ensures { λ r. ⌜ r ≡ startAt (now (ranges .entry)) j ⌝ }
-{
-    if j == 0 {
-        return 0;
-    }
-    ranges[j - 1]
-}
-
-fn ranges_stop(ranges: &[usize; 320], j: usize) -> usize
-    requires { ⌜ j < 320 ⌝ }
-    ensures { λ r. ⌜ r ≡ min (getD (now (ranges .entry)) j 0) 2048 ⌝ }
-{
-    lesser(ranges[j], MAX_RANGES)
-}
-
-// The relation j holds.
+// The relation holds.
 fn relation_holds<'a>(
-    columns: &'a [u32; 1280],
     low: &'a [u32; 2048],
     high: &'a [u32; 2048],
-    j: usize,
+    s: Single,
     x: Number,
 ) -> bool
-    requires { ⌜ j < 320 ⌝ }
-    ensures { λ r. ⌜ r ≡ holds (relationAt (table (now (columns .entry)) (now (low .entry)) (now (high .entry))) j) x ⌝ }
+    requires { ⌜ s .to ≤ 2048 ⌝ }
+    ensures { λ r. ⌜ r ≡ holds (relationOf (now (low .entry)) (now (high .entry)) s) x ⌝ }
 {
-    let o = operand[j];
-    if !is_whole(o, x) {
-        return negated[j];
+    if !is_whole(s.operand, x) {
+        return s.negated;
     }
-    let value = remainder(operand_value(o, x), wide32(modulus[j]));
-    let listed = in_ranges(
-        low,
-        high,
-        ranges_start(ranges, j),
-        ranges_stop(ranges, j),
-        value,
-    );
-    if negated[j] {
+    let value = remainder(operand_value(s.operand, x), wide32(s.modulus));
+    let listed = in_ranges(low, high, s.from, s.to, value);
+    if s.negated {
         return !listed;
     }
     listed
@@ -167,7 +141,7 @@ fn clause_holds<'a>(
 {
     let mut j = from;
     while j < to {
-        if !relation_holds(columns, low, high, j, x) {
+        if !relation_holds(low, high, single_at(columns, j), x) {
             return false;
         }
         j += 1;

@@ -9,7 +9,7 @@ use lib.Dec.{eqb, eqb·suc-zero}
 use lib.ListN.{length, getD, take, drop, length-take}
 use lib.Seq.{getD-take}
 use Rattle.rules.specs.Syntax.{Range, Relation, Rule}
-use Rattle.rules.specs.Held.{Pack, Row, rowsOf, endsIn, parts, keywordOf, rangesFrom, relationsFrom, rulesFrom, heldRanges, heldRelations, heldClauses, heldRules}
+use Rattle.rules.specs.Held.{Pack, Row, rowsOf, rowEnds, parts, keywordOf, rangesFrom, relationsFrom, rulesFrom, heldRanges, heldRelations, heldClauses, heldRules}
 use Rattle.rules.specs.Stretch.{stretch, startAt, rangeAt, rangesIn, endAt, rangesFromAt, Table, table, tableOf, relationAt, relationsIn, clauseAt, clausesIn, ruleAt}
 
 -- ---- stretches
@@ -115,7 +115,7 @@ rows-stretch (suc n) (o ∷ m ∷ c ∷ x ∷ xs) e =
     ap (λ (l : List Row). record { operand = o; modulus = m; comparison = c; end = x } ∷ l)
     (rows-stretch n xs (omega arith) ∙ stretch-same 0 n (λ k h. sym (row-next o m c x xs k)) ∙ sym (stretch-shift (rowAt (o ∷ m ∷ c ∷ x ∷ xs)) 0 n))
 
-ends-stretch : (g : ℕ → Row) (from n : ℕ) → endsIn (stretch g from n) ≡ stretch (λ (j : ℕ). g j .end) from n
+ends-stretch : (g : ℕ → Row) (from n : ℕ) → rowEnds (stretch g from n) ≡ stretch (λ (j : ℕ). g j .end) from n
 unfolding stretch
 ends-stretch g from zero = refl
 ends-stretch g from (suc n) = ap (λ (l : List ℕ). g from .end ∷ l) (ends-stretch g (suc from) n)
@@ -187,8 +187,8 @@ pub held-relations : (p : Pack) → Sized p → heldRelations p ≡ stretch (rel
 unfolding rowAt
 held-relations p s =
     let rows : rowsOf (p .columns) ≡ stretch (rowAt (p .columns)) 0 320 = rows-stretch 320 (p .columns) (s .columns) in
-    let ends : endsIn (rowsOf (p .columns)) ≡ stretch (endAt (p .columns)) 0 320 = ap endsIn rows ∙ ends-stretch (rowAt (p .columns)) 0 320 in
-    let q : parts 0 (endsIn (rowsOf (p .columns))) (heldRanges p) ≡ stretch ranges-at 0 320 =
+    let ends : rowEnds (rowsOf (p .columns)) ≡ stretch (endAt (p .columns)) 0 320 = ap rowEnds rows ∙ ends-stretch (rowAt (p .columns)) 0 320 in
+    let q : parts 0 (rowEnds (rowsOf (p .columns))) (heldRanges p) ≡ stretch ranges-at 0 320 =
     rw (held-ranges p s, ends)
     (parts-of (rangeAt (p .low) (p .high)) (stretch (endAt (p .columns)) 0 320) 2048 ∙ rw (length-stretch (endAt (p .columns)) 0 320) (stretch-same 0 320 (λ j h. same j (omega arith)))) in
     ap (λ (l : List (List Range)). relationsFrom (rowsOf (p .columns)) l) q ∙ ap (λ (l : List Row). relationsFrom l (stretch ranges-at 0 320)) rows

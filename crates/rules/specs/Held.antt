@@ -53,8 +53,8 @@ rowsOf (o ∷ m ∷ []) = []
 rowsOf (o ∷ m ∷ c ∷ []) = []
 rowsOf (o ∷ m ∷ c ∷ e ∷ xs) = record { operand = o; modulus = m; comparison = c; end = e } ∷ rowsOf xs
 
-abbrev pub endsIn : List Row → List ℕ
-endsIn ws = map (λ (w : Row). w .end) ws
+abbrev pub rowEnds : List Row → List ℕ
+rowEnds ws = map (λ (w : Row). w .end) ws
 
 abbrev pub relationsFrom : List Row → List (List Range) → List Relation
 relationsFrom [] rs = []
@@ -71,7 +71,7 @@ abbrev pub heldRanges : Pack → List Range
 heldRanges p = rangesFrom (p .low) (p .high)
 
 abbrev pub heldRelations : Pack → List Relation
-heldRelations p = relationsFrom (rowsOf (p .columns)) (parts 0 (endsIn (rowsOf (p .columns))) (heldRanges p))
+heldRelations p = relationsFrom (rowsOf (p .columns)) (parts 0 (rowEnds (rowsOf (p .columns))) (heldRanges p))
 
 abbrev pub heldClauses : Pack → List (List Relation)
 heldClauses p = parts 0 (p .relations) (heldRelations p)

@@ -13,7 +13,7 @@
 //   keyword     [u8; 6]        of each rule: its keyword's number,
 //   clauses     [usize; 6]     and where its clauses end; `other:` has none
 ghost use mathlib.Core.Path.{_≡_};
-ghost use Prim.Native.Nat.{_<_, min};
+ghost use Prim.Native.Nat.{_≤_, _<_, min};
 ghost use Rattle.rules.specs.Stretch.{endAt, rangesFromAt, singleAt};
 
 const MAX_RANGES: usize = 2048;
@@ -42,9 +42,9 @@ fn end_at(columns: &[u32; 1280], j: usize) -> usize
     place(columns[4 * j + 3])
 }
 
-// Where they begin.
-fn from_at(columns: &[u32; 1280], j: usize) -> usize
-    requires { ⌜ j < 320 ⌝ }
+// Where they begin: where those of the relation before it end.
+pub fn from_at(columns: &[u32; 1280], j: usize) -> usize
+    requires { ⌜ j ≤ 320 ⌝ }
     ensures { λ r. ⌜ r ≡ rangesFromAt (now (columns .entry)) j ⌝ }
 {
     if j == 0 {
@@ -63,6 +63,7 @@ fn within(n: usize) -> usize
 pub fn single_at(columns: &[u32; 1280], j: usize) -> Single
     requires { ⌜ j < 320 ⌝ }
     ensures { λ r. ⌜ r ≡ singleAt (now (columns .entry)) j ⌝ }
+    ensures { λ r. ⌜ r .to ≤ 2048 ⌝ }
 {
     let from = from_at(columns, j);
     let to = within(end_at(columns, j));

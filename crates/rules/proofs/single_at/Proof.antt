@@ -1,4 +1,5 @@
 -- `rules::single_at` takes the numbers where they stand.
+use native.Mathlib.Omega.{arith}
 use borrow.Author.Needs.{needs}
 use Rattle.rules.proofs.single_at.Statement.{statement}
 use Rattle.rules.proofs.single_at.Tie as tie
@@ -47,8 +48,8 @@ element-copy-out-t21 c = search needs
 
 returns : tie.Need-returns
 returns c =
-    let f = c .before .before .before .before .before in
-    rw (f .from-at .ensures, c .before .before .before .within .ensures, c .before .before .before .before .end-at .ensures)
+    let w = c .before .before .before .within in
+    (rw (c .before .before .before .before .before .from-at .ensures, w .ensures, c .before .before .before .before .end-at .ensures), omega (arith, w .ensures))
 
 pub single-at-spec : {M : Type 1} → statement M
 single-at-spec =
