@@ -2,7 +2,7 @@
 ghost use mathlib.Core.Path.{_≡_};
 ghost use Prim.Native.Nat.{_%_, _≤_, _<_, min};
 ghost use lib.ListN.{getD};
-ghost use Rattle.rules.specs.Stretch.{startAt, rangesIn, relationOf, table, relationsIn, clausesIn};
+ghost use Rattle.rules.specs.Stretch.{startAt, rangesIn, relationBy, table, relationsIn, clausesIn};
 ghost use Rattle.plural.specs.Meaning.{any, inRange, operandValue, isWhole, holds, clauseHolds, conditionHolds};
 use number::Number;
 use rules::Single;
@@ -114,7 +114,7 @@ fn relation_holds<'a>(
     x: Number,
 ) -> bool
     requires { ⌜ s .to ≤ 2048 ⌝ }
-    ensures { λ r. ⌜ r ≡ holds (relationOf (now (low .entry)) (now (high .entry)) s) x ⌝ }
+    ensures { λ r. ⌜ r ≡ holds (relationBy (now (low .entry)) (now (high .entry)) s) x ⌝ }
 {
     if !is_whole(s.operand, x) {
         return s.negated;

@@ -43,8 +43,8 @@ singleAt columns j =
     }
 
 -- the relation of these numbers
-abbrev pub relationOf : List ℕ → List ℕ → Single → Relation
-relationOf low high s = record { operand = s .operand; modulus = s .modulus; negated = s .negated; ranges = rangesIn low high (s .from) (s .to) }
+abbrev pub relationBy : List ℕ → List ℕ → Single → Relation
+relationBy low high s = record { operand = s .operand; modulus = s .modulus; negated = s .negated; ranges = rangesIn low high (s .from) (s .to) }
 
 -- the arrays of relations and their ranges
 pub record Table : Type 0 where
@@ -59,7 +59,7 @@ abbrev pub tableOf : Pack → Table
 tableOf p = table (p .columns) (p .low) (p .high)
 
 abbrev pub relationAt : Table → ℕ → Relation
-relationAt T j = relationOf (T .low) (T .high) (singleAt (T .columns) j)
+relationAt T j = relationBy (T .low) (T .high) (singleAt (T .columns) j)
 
 abbrev pub relationsIn : Table → ℕ → ℕ → List Relation
 relationsIn T from to = stretch (relationAt T) from (to - from)

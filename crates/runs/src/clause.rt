@@ -19,6 +19,7 @@ use crate::range;
 use crate::relation;
 use clash_laws::Query;
 use clash_laws::Span;
+use rules::single_at;
 
 // How many places there are from `from` to before `to`.
 fn count(from: usize, to: usize) -> usize
@@ -101,7 +102,7 @@ fn run_at<'a>(
         };
     }
     sized(says, stop);
-    let r = relation::own_run(columns, low, high, q, level, place_of(s, k), p);
+    let r = relation::own_run(low, high, q, level, single_at(columns, place_of(s, k)), p);
     says[k] = r.says;
     stop[k] = r.stop;
     r
@@ -182,7 +183,7 @@ pub fn passes_at<'a>(
     let mut k = 0;
     while k < size {
         let j = place_of(s, k);
-        if !relation::passes_of(columns, low, high, q, j, x) {
+        if !relation::passes_of(low, high, q, single_at(columns, j), x) {
             return false;
         }
         k += 1;

@@ -4,7 +4,7 @@ use mathlib.Core.Path.{_≡_, sym, ap, _∙_}
 use Prim.Native.Nat.{_-_}
 use borrow.Author.Tests.{not-true, not-false}
 use Rattle.rules.specs.Syntax.{Relation}
-use Rattle.rules.specs.Stretch.{relationOf, table, relationAt, relationsIn}
+use Rattle.rules.specs.Stretch.{relationBy, table, relationAt, relationsIn}
 use Rattle.plural.specs.Meaning.{holds, clauseHolds}
 use Rattle.plural.proofs.Meanings.{all-failed, all-next, all-passed}
 use borrow.Author.Needs.{needs}
@@ -33,7 +33,7 @@ returns c =
     let a = c .before .before .before .before .before .args in
     let T = table (a .columns .now) (a .low .now) (a .high .now) in
     let h = c .before .relation-holds in
-    let e = h .ensures ∙ ap (λ (s : Single). holds (relationOf (a .low .now) (a .high .now) s) (a .x)) (c .before .before .single-at .ensures .0) in
+    let e = h .ensures ∙ ap (λ (s : Single). holds (relationBy (a .low .now) (a .high .now) s) (a .x)) (c .before .before .single-at .ensures .0) in
     sym (sym (l .inv) ∙ all-failed (λ (r : Relation). holds r (a .x)) (relationAt T) (l .j) (a .to) (c .before .before .before .loop-test .taken) (sym e ∙ not-true (h .result) (c .if1 .taken)))
 
 add-j : tie.Need-add-j Inv-loop μ-loop
@@ -48,7 +48,7 @@ loop-again c =
     let a = c .before .before .before .before .before .args in
     let T = table (a .columns .now) (a .low .now) (a .high .now) in
     let h = c .before .relation-holds in
-    let e = h .ensures ∙ ap (λ (s : Single). holds (relationOf (a .low .now) (a .high .now) s) (a .x)) (c .before .before .single-at .ensures .0) in
+    let e = h .ensures ∙ ap (λ (s : Single). holds (relationBy (a .low .now) (a .high .now) s) (a .x)) (c .before .before .single-at .ensures .0) in
     sym (all-next (λ (r : Relation). holds r (a .x)) (relationAt T) (l .j) (a .to) (c .before .before .before .loop-test .taken) (sym e ∙ not-false (h .result) (c .if1 .left))) ∙ l .inv
 
 returns-2 : tie.Need-returns-2 Inv-loop μ-loop

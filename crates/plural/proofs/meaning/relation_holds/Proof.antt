@@ -1,6 +1,6 @@
 use mathlib.Core.Path.{sym, _∙_}
 use borrow.Author.Tests.{not-true, not-false}
-use Rattle.rules.specs.Stretch.{relationOf}
+use Rattle.rules.specs.Stretch.{relationBy}
 use Rattle.plural.proofs.Meanings.{not-whole, listed, holds-negated, holds-plain}
 -- `plural::meaning::relation_holds` answers `holds` of the relation.
 use borrow.Author.Needs.{needs}
@@ -14,7 +14,7 @@ returns : tie.Need-returns
 returns c =
     let a = c .before .before .args in
     let w = c .before .is-whole in
-    not-whole (relationOf (a .low .now) (a .high .now) (a .s)) (a .x) (sym (w .ensures) ∙ not-true (w .result) (c .if1 .taken))
+    not-whole (relationBy (a .low .now) (a .high .now) (a .s)) (a .x) (sym (w .ensures) ∙ not-true (w .result) (c .if1 .taken))
 
 operand-value-requires : tie.Need-operand-value-requires
 operand-value-requires c κs = search needs
@@ -31,7 +31,7 @@ in-ranges-requires c κs = search needs
 returns-2 : tie.Need-returns-2
 returns-2 c =
     let a = c .before .before .before .before .before .before .before .args in
-    let r = relationOf (a .low .now) (a .high .now) (a .s) in
+    let r = relationBy (a .low .now) (a .high .now) (a .s) in
     let w = c .before .before .before .before .before .before .is-whole in
     let q = c .before .in-ranges in
     let k = listed r (a .x) (q .result) (sym (w .ensures) ∙ not-false (w .result) (c .before .before .before .before .before .if1 .left)) (q .ensures ∙ rw (c .before .before .remainder .ensures, c .before .before .before .before .operand-value .ensures, c .before .before .before .wide32 .ensures)) in
@@ -40,7 +40,7 @@ returns-2 c =
 returns-3 : tie.Need-returns-3
 returns-3 c =
     let a = c .before .before .before .before .before .before .before .args in
-    let r = relationOf (a .low .now) (a .high .now) (a .s) in
+    let r = relationBy (a .low .now) (a .high .now) (a .s) in
     let w = c .before .before .before .before .before .before .is-whole in
     let q = c .before .in-ranges in
     let k = listed r (a .x) (q .result) (sym (w .ensures) ∙ not-false (w .result) (c .before .before .before .before .before .if1 .left)) (q .ensures ∙ rw (c .before .before .remainder .ensures, c .before .before .before .before .operand-value .ensures, c .before .before .before .wide32 .ensures)) in
