@@ -10,12 +10,14 @@ ghost use mathlib.Core.Bool.{not};
 ghost use mathlib.Core.List.{List, [], _∷_};
 ghost use Prim.Native.Nat.{_/_, _%_, _≤_, _<_};
 ghost use Rattle.rules.specs.Syntax.{Relation};
-ghost use Rattle.rules.specs.Stretch.{table, relationAt, relationsIn};
+ghost use Rattle.rules.specs.Stretch.{relationBy, table, relationsIn};
 ghost use Rattle.plural.specs.Meaning.{all};
 ghost use Rattle.clash_laws.specs.Bounded.{bounded};
 ghost use Rattle.clash_laws.specs.Fast.{asksOf, exponentOf, passes, queryT};
 ghost use Rattle.clash_laws.specs.Profile.{packed, profileOf};
 use clash_laws::Bounds;
+use rules::Single;
+use rules::single_at;
 
 // Every e, and every v or w.
 const EACH_E: u64 = 32_767;
@@ -52,19 +54,18 @@ fn pack_parts(e: u64, v: u64, w: u64, flags: u64) -> u64
     ((flags * PLACES + w) * PLACES + v) * V_PLACE + e
 }
 
-// The profile of the relation j, by its letter.
+// The profile of a relation, by its letter.
 fn relation_profile<'a>(
-    columns: &'a [u32; 1280],
     low: &'a [u32; 2048],
     high: &'a [u32; 2048],
-    j: usize,
+    s: Single,
 ) -> u64
-    requires { ⌜ j < 320 ⌝ }
-    ensures { λ r. ⌜ r ≡ profileOf (relationAt (table (now (columns .entry)) (now (low .entry)) (now (high .entry))) j ∷ []) ⌝ }
+    requires { ⌜ s .to ≤ 2048 ⌝ }
+    ensures { λ r. ⌜ r ≡ profileOf (relationBy (now (low .entry)) (now (high .entry)) s ∷ []) ⌝ }
 {
-    let o = operand[j];
+    let o = s.operand;
     if o == 110 {
-        if negated[j] {
+        if s.negated {
             return pack_parts(EACH_E, EACH_PLACE, EACH_PLACE, N_ASKED);
         }
         return pack_parts(EACH_E, EACH_PLACE, 1, N_ASKED);
@@ -73,22 +74,22 @@ fn relation_profile<'a>(
         return pack_parts(EACH_E, EACH_PLACE, EACH_PLACE, NEITHER_ASKED);
     }
     if o == 102 {
-        let zero = values::zero_of(columns, low, high, j);
+        let zero = values::zero_of(low, high, s);
         return pack_parts(EACH_E, EACH_PLACE, EACH_PLACE, zero + F_ASKED);
     }
     if o == 116 {
-        let zero = values::zero_of(columns, low, high, j);
+        let zero = values::zero_of(low, high, s);
         return pack_parts(EACH_E, EACH_PLACE, EACH_PLACE, zero + T_ASKED);
     }
     if o == 118 {
-        let v = values::places_of(columns, low, high, j);
+        let v = values::places_of(low, high, s);
         return pack_parts(EACH_E, v, EACH_PLACE, NEITHER_ASKED);
     }
     if o == 119 {
-        let w = values::places_of(columns, low, high, j);
+        let w = values::places_of(low, high, s);
         return pack_parts(EACH_E, EACH_PLACE, w, NEITHER_ASKED);
     }
-    let e = values::exponents_of(columns, low, high, j);
+    let e = values::exponents_of(low, high, s);
     pack_parts(e, EACH_PLACE, EACH_PLACE, NEITHER_ASKED)
 }
 
@@ -106,7 +107,7 @@ pub fn clause_profile<'a>(
     let mut p = pack_parts(EACH_E, EACH_PLACE, EACH_PLACE, NEITHER_ASKED);
     let mut j = from;
     while j < to {
-        p = p & relation_profile(columns, low, high, j);
+        p = p & relation_profile(low, high, single_at(columns, j));
         j += 1;
     }
     p
