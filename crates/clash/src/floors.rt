@@ -5,36 +5,26 @@ ghost use mathlib.Core.List.{List};
 ghost use Prim.Native.Nat.{ℕ, max, _≤_, _<_};
 ghost use lib.ListN.{getD};
 ghost use Rattle.clash_laws.specs.Floors.{Floored, Under, longIn};
-ghost use Rattle.rules.specs.Stretch.{startAt, table, clauseAt};
+ghost use Rattle.rules.specs.Stretch.{table, clauseAt};
 use crate::joined;
 use clash_laws::Floors;
 use clash_laws::Span;
+use rules::from_at;
 use search::order;
 
 // A clause with more ranges is long: a shorter one is searched as quickly as its floors are found.
 const LONG: usize = 24;
 
-// Where the ranges of the relation k begin: where those of the one before end.
-fn ranges_start(ends: &[usize; 320], k: usize) -> usize
-    requires { ⌜ k ≤ 320 ⌝ }
-    ensures { λ r. ⌜ r ≡ startAt (now (ends .entry)) k ⌝ }
-{
-    if k == 0 {
-        return 0;
-    }
-    ends[k - 1]
-}
-
 // Whether the relations from place `from` to before `to` have many ranges.
-fn is_long(ranges: &[usize; 320], from: usize, to: usize) -> bool
+fn is_long(columns: &[u32; 1280], from: usize, to: usize) -> bool
     requires { ⌜ to ≤ 320 ⌝ }
-    ensures { λ r. ⌜ r ≡ longIn (now (ranges .entry)) 24 from to ⌝ }
+    ensures { λ r. ⌜ r ≡ longIn (now (columns .entry)) 24 from to ⌝ }
 {
     if to <= from {
         return false;
     }
-    let start = ranges_start(ranges, from);
-    let end = ranges_start(ranges, to);
+    let start = from_at(columns, from);
+    let end = from_at(columns, to);
     if end < start {
         return false;
     }
@@ -54,7 +44,7 @@ fn clause_floors<'a>(
 {
     let from = joined::relations_start(relations, j);
     let to = joined::relations_stop(relations, j);
-    if !is_long(ranges, from, to) {
+    if !is_long(columns, from, to) {
         return Floors {
             whole: 0,
             part: 0,

@@ -25,8 +25,8 @@ relations-start-requires-2 c κs = search needs
 relations-stop-requires-2 : tie.Need-relations-stop-requires-2
 relations-stop-requires-2 c κs = search needs
 
-cast-t23 : tie.Need-cast-t23
-cast-t23 c = search needs
+cast-t20 : tie.Need-cast-t20
+cast-t20 c = search needs
 
 mul-p : tie.Need-mul-p
 mul-p c = search needs
@@ -57,7 +57,7 @@ joined-spot-spec =
     relations-stop-requires
     relations-start-requires-2
     relations-stop-requires-2
-    cast-t23
+    cast-t20
     mul-p
     element-copy-out-p
     mul-p-2
