@@ -107,12 +107,7 @@ fn in_ranges<'a>(
 }
 
 // The relation holds.
-fn relation_holds<'a>(
-    low: &'a [u32; 2048],
-    high: &'a [u32; 2048],
-    s: Single,
-    x: Number,
-) -> bool
+fn relation_holds<'a>(low: &'a [u32; 2048], high: &'a [u32; 2048], s: Single, x: Number) -> bool
     requires { ⌜ s .to ≤ 2048 ⌝ }
     ensures { λ r. ⌜ r ≡ holds (relationBy (now (low .entry)) (now (high .entry)) s) x ⌝ }
 {

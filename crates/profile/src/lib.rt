@@ -55,11 +55,7 @@ fn pack_parts(e: u64, v: u64, w: u64, flags: u64) -> u64
 }
 
 // The profile of a relation, by its letter.
-fn relation_profile<'a>(
-    low: &'a [u32; 2048],
-    high: &'a [u32; 2048],
-    s: Single,
-) -> u64
+fn relation_profile<'a>(low: &'a [u32; 2048], high: &'a [u32; 2048], s: Single) -> u64
     requires { ⌜ s .to ≤ 2048 ⌝ }
     ensures { λ r. ⌜ r ≡ profileOf (relationBy (now (low .entry)) (now (high .entry)) s ∷ []) ⌝ }
 {

@@ -26,12 +26,7 @@ fn with_bit(mask: u64, place: u64, on: bool) -> u64
 }
 
 // The values below n at which the relation holds.
-fn values_of<'a>(
-    low: &'a [u32; 2048],
-    high: &'a [u32; 2048],
-    s: Single,
-    n: u64,
-) -> u64
+fn values_of<'a>(low: &'a [u32; 2048], high: &'a [u32; 2048], s: Single, n: u64) -> u64
     requires { ⌜ (s .to ≤ 2048) × (n ≤ 15) ⌝ }
     ensures { λ r. ⌜ r ≡ valuesOf (test (relationBy (now (low .entry)) (now (high .entry)) s)) n ⌝ }
 {
@@ -48,22 +43,14 @@ fn values_of<'a>(
 }
 
 // The e, and the v or w, at which it holds.
-pub fn exponents_of<'a>(
-    low: &'a [u32; 2048],
-    high: &'a [u32; 2048],
-    s: Single,
-) -> u64
+pub fn exponents_of<'a>(low: &'a [u32; 2048], high: &'a [u32; 2048], s: Single) -> u64
     requires { ⌜ s .to ≤ 2048 ⌝ }
     ensures { λ r. ⌜ (r ≡ valuesOf (test (relationBy (now (low .entry)) (now (high .entry)) s)) (suc maxExponent)) × (r < 32_768) ⌝ }
 {
     values_of(low, high, s, EXPONENTS)
 }
 
-pub fn places_of<'a>(
-    low: &'a [u32; 2048],
-    high: &'a [u32; 2048],
-    s: Single,
-) -> u64
+pub fn places_of<'a>(low: &'a [u32; 2048], high: &'a [u32; 2048], s: Single) -> u64
     requires { ⌜ s .to ≤ 2048 ⌝ }
     ensures { λ r. ⌜ (r ≡ valuesOf (test (relationBy (now (low .entry)) (now (high .entry)) s)) (suc maxPlaces)) × (r < 1_024) ⌝ }
 {
@@ -71,19 +58,11 @@ pub fn places_of<'a>(
 }
 
 // Whether it holds at 0, as a bit.
-pub fn zero_of<'a>(
-    low: &'a [u32; 2048],
-    high: &'a [u32; 2048],
-    s: Single,
-) -> u64
+pub fn zero_of<'a>(low: &'a [u32; 2048], high: &'a [u32; 2048], s: Single) -> u64
     requires { ⌜ s .to ≤ 2048 ⌝ }
     ensures { λ r. ⌜ (r ≡ bit (test (relationBy (now (low .entry)) (now (high .entry)) s) 0)) × (r ≤ 1) ⌝ }
 {
-    if holds_of(low, high, s, 0) {
-        1
-    } else {
-        0
-    }
+    if holds_of(low, high, s, 0) { 1 } else { 0 }
 }
 
 // Whether v is within the bounds.

@@ -35,12 +35,7 @@ fn turned(b: bool, negated: bool) -> bool
 }
 
 // What the relation says of the remainder y, or of the value y where it has no modulus.
-fn listed_run<'a>(
-    low: &'a [u32; 2048],
-    high: &'a [u32; 2048],
-    s: Single,
-    y: u64,
-) -> Run
+fn listed_run<'a>(low: &'a [u32; 2048], high: &'a [u32; 2048], s: Single, y: u64) -> Run
     requires { ⌜ (s .to ≤ 2048) × (y ≤ cap) ⌝ }
     ensures { λ r. ⌜ Alike (listed (relationBy (now (low .entry)) (now (high .entry)) s)) y (r .says) (r .stop) ⌝ }
     ensures { λ r. ⌜ r .stop ≤ far ⌝ }
@@ -53,12 +48,7 @@ fn listed_run<'a>(
 }
 
 // Whether it holds of the value x.
-pub fn holds_of<'a>(
-    low: &'a [u32; 2048],
-    high: &'a [u32; 2048],
-    s: Single,
-    x: u64,
-) -> bool
+pub fn holds_of<'a>(low: &'a [u32; 2048], high: &'a [u32; 2048], s: Single, x: u64) -> bool
     requires { ⌜ (x ≤ cap) × (s .to ≤ 2048) ⌝ }
     ensures { λ r. ⌜ r ≡ test (relationBy (now (low .entry)) (now (high .entry)) s) x ⌝ }
 {
