@@ -2,7 +2,7 @@
 //
 // `read_pack` goes once over the bytes, token by token: the walk says what may follow (21) and finds
 // 22 to 26; each relation, clause and rule is stored when the token behind it closes it.
-// specs/Board.antt says how a token changes the arrays. They are the caller's, some 21 KB, and are
+// specs/Board.antt says how a token changes the arrays. They are the caller's, some 22 KB, and are
 // lent: returned by value they would be copied, which costs what reading a small pack does.
 ghost use mathlib.Core.Path.{_≡_};
 ghost use Prim.Native.Nat.{_-_, min};

@@ -2,7 +2,7 @@
 // at a level, and how far it says so.
 ghost use mathlib.Core.Path.{_≡_};
 ghost use mathlib.Core.Bool.{not};
-ghost use Prim.Native.Nat.{_+_, _-_, _*_, _/_, _%_, _≤_, _<_, min};
+ghost use Prim.Native.Nat.{_+_, _-_, _*_, _/_, _%_, _≤_, _<_};
 ghost use Rattle.decimal.specs.Choice.{if_then_else_};
 ghost use Rattle.rules.specs.Stretch.{relationBy};
 ghost use Rattle.least.specs.Seek.{Alike};
