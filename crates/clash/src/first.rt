@@ -21,10 +21,7 @@ use search::order;
 
 // The first of the rules behind the rule p, below n, that clashes with it; n where none does.
 pub fn later_clash<'a>(
-    operand: &'a [u8; 320],
-    modulus: &'a [u32; 320],
-    negated: &'a [bool; 320],
-    ranges: &'a [usize; 320],
+    columns: &'a [u32; 1280],
     low: &'a [u32; 2048],
     high: &'a [u32; 2048],
     relations: &'a [usize; 40],
@@ -36,17 +33,14 @@ pub fn later_clash<'a>(
     p: usize,
     n: usize,
 ) -> Clash
-    requires { ⌜ (p < n) × (n ≤ 6) × Floored (table (now operand) (now modulus) (now negated) (now ranges) (now low) (now high)) (now relations) (now whole) (now part) (now tail) ⌝ }
-    requires { ⌜ ProfiledRules (table (now operand) (now modulus) (now negated) (now ranges) (now low) (now high)) (now relations) (now clauses) n (now profiles) ⌝ }
-    ensures { λ r. ⌜ ((rest : Checked) → against fastClash (p + 1) (p + 1 + 1) (bareRule (table (now (operand .entry)) (now (modulus .entry)) (now (negated .entry)) (now (ranges .entry)) (now (low .entry)) (now (high .entry))) (now (relations .entry)) (now (clauses .entry)) p) (stretch (bareRule (table (now (operand .entry)) (now (modulus .entry)) (now (negated .entry)) (now (ranges .entry)) (now (low .entry)) (now (high .entry))) (now (relations .entry)) (now (clauses .entry))) (p + 1) (n - (p + 1))) rest ≡ answered p n (r .at) (r .spot) rest) × (r .at < n → r .spot .e ≤ maxExponent) × Proper (r .spot) ⌝ }
+    requires { ⌜ (p < n) × (n ≤ 6) × Floored (table (now columns) (now low) (now high)) (now relations) (now whole) (now part) (now tail) ⌝ }
+    requires { ⌜ ProfiledRules (table (now columns) (now low) (now high)) (now relations) (now clauses) n (now profiles) ⌝ }
+    ensures { λ r. ⌜ ((rest : Checked) → against fastClash (p + 1) (p + 1 + 1) (bareRule (table (now (columns .entry)) (now (low .entry)) (now (high .entry))) (now (relations .entry)) (now (clauses .entry)) p) (stretch (bareRule (table (now (columns .entry)) (now (low .entry)) (now (high .entry))) (now (relations .entry)) (now (clauses .entry))) (p + 1) (n - (p + 1))) rest ≡ answered p n (r .at) (r .spot) rest) × (r .at < n → r .spot .e ≤ maxExponent) × Proper (r .spot) ⌝ }
 {
     let mut q = p + 1;
     while q < n {
         let spot = joined::pair_spot(
-            operand,
-            modulus,
-            negated,
-            ranges,
+            columns,
             low,
             high,
             relations,
@@ -81,10 +75,7 @@ pub fn clashes(p: usize, q: usize, s: Witness) -> Checked
 
 // The first pair among the first n rules, with its least number.
 pub fn first_pair<'a>(
-    operand: &'a [u8; 320],
-    modulus: &'a [u32; 320],
-    negated: &'a [bool; 320],
-    ranges: &'a [usize; 320],
+    columns: &'a [u32; 1280],
     low: &'a [u32; 2048],
     high: &'a [u32; 2048],
     relations: &'a [usize; 40],
@@ -95,17 +86,14 @@ pub fn first_pair<'a>(
     profiles: &'a [u64; 40],
     n: usize,
 ) -> Checked
-    requires { ⌜ (n ≤ 6) × Floored (table (now operand) (now modulus) (now negated) (now ranges) (now low) (now high)) (now relations) (now whole) (now part) (now tail) ⌝ }
-    requires { ⌜ ProfiledRules (table (now operand) (now modulus) (now negated) (now ranges) (now low) (now high)) (now relations) (now clauses) n (now profiles) ⌝ }
-    ensures { λ r. ⌜ r ≡ firstPair fastClash (0 + 1) (stretch (bareRule (table (now (operand .entry)) (now (modulus .entry)) (now (negated .entry)) (now (ranges .entry)) (now (low .entry)) (now (high .entry))) (now (relations .entry)) (now (clauses .entry))) 0 (n - 0)) ⌝ }
+    requires { ⌜ (n ≤ 6) × Floored (table (now columns) (now low) (now high)) (now relations) (now whole) (now part) (now tail) ⌝ }
+    requires { ⌜ ProfiledRules (table (now columns) (now low) (now high)) (now relations) (now clauses) n (now profiles) ⌝ }
+    ensures { λ r. ⌜ r ≡ firstPair fastClash (0 + 1) (stretch (bareRule (table (now (columns .entry)) (now (low .entry)) (now (high .entry))) (now (relations .entry)) (now (clauses .entry))) 0 (n - 0)) ⌝ }
 {
     let mut k: usize = 0;
     while k < n {
         let c = later_clash(
-            operand,
-            modulus,
-            negated,
-            ranges,
+            columns,
             low,
             high,
             relations,

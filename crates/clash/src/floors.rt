@@ -5,36 +5,26 @@ ghost use mathlib.Core.List.{List};
 ghost use Prim.Native.Nat.{ℕ, max, _≤_, _<_};
 ghost use lib.ListN.{getD};
 ghost use Rattle.clash_laws.specs.Floors.{Floored, Under, longIn};
-ghost use Rattle.rules.specs.Stretch.{startAt, table, clauseAt};
+ghost use Rattle.rules.specs.Stretch.{table, clauseAt};
 use crate::joined;
 use clash_laws::Floors;
 use clash_laws::Span;
+use rules::from_at;
 use search::order;
 
 // A clause with more ranges is long: a shorter one is searched as quickly as its floors are found.
 const LONG: usize = 24;
 
-// Where the ranges of the relation k begin: where those of the one before end.
-fn ranges_start(ends: &[usize; 320], k: usize) -> usize
-    requires { ⌜ k ≤ 320 ⌝ }
-    ensures { λ r. ⌜ r ≡ startAt (now (ends .entry)) k ⌝ }
-{
-    if k == 0 {
-        return 0;
-    }
-    ends[k - 1]
-}
-
 // Whether the relations from place `from` to before `to` have many ranges.
-fn is_long(ranges: &[usize; 320], from: usize, to: usize) -> bool
+fn is_long(columns: &[u32; 1280], from: usize, to: usize) -> bool
     requires { ⌜ to ≤ 320 ⌝ }
-    ensures { λ r. ⌜ r ≡ longIn (now (ranges .entry)) 24 from to ⌝ }
+    ensures { λ r. ⌜ r ≡ longIn (now (columns .entry)) 24 from to ⌝ }
 {
     if to <= from {
         return false;
     }
-    let start = ranges_start(ranges, from);
-    let end = ranges_start(ranges, to);
+    let start = from_at(columns, from);
+    let end = from_at(columns, to);
     if end < start {
         return false;
     }
@@ -43,21 +33,18 @@ fn is_long(ranges: &[usize; 320], from: usize, to: usize) -> bool
 
 // The floors of the clause j: zeros where it is not long.
 fn clause_floors<'a>(
-    operand: &'a [u8; 320],
-    modulus: &'a [u32; 320],
-    negated: &'a [bool; 320],
-    ranges: &'a [usize; 320],
+    columns: &'a [u32; 1280],
     low: &'a [u32; 2048],
     high: &'a [u32; 2048],
     relations: &'a [usize; 40],
     j: usize,
 ) -> Floors
     requires { ⌜ j < 40 ⌝ }
-    ensures { λ r. ⌜ Under (clauseAt (table (now (operand .entry)) (now (modulus .entry)) (now (negated .entry)) (now (ranges .entry)) (now (low .entry)) (now (high .entry))) (now (relations .entry)) j) r ⌝ }
+    ensures { λ r. ⌜ Under (clauseAt (table (now (columns .entry)) (now (low .entry)) (now (high .entry))) (now (relations .entry)) j) r ⌝ }
 {
     let from = joined::relations_start(relations, j);
     let to = joined::relations_stop(relations, j);
-    if !is_long(ranges, from, to) {
+    if !is_long(columns, from, to) {
         return Floors {
             whole: 0,
             part: 0,
@@ -70,7 +57,7 @@ fn clause_floors<'a>(
         start: 0,
         stop: 0,
     };
-    search::floors_of(operand, modulus, negated, ranges, low, high, s)
+    search::floors_of(columns, low, high, s)
 }
 
 fn higher(floors: &[u64; 40], k: usize, l: usize) -> u64
@@ -100,10 +87,7 @@ pub fn pair_floors<'a>(
 
 // Fills in the floors of the first `to` clauses.
 pub fn fill<'a>(
-    operand: &'a [u8; 320],
-    modulus: &'a [u32; 320],
-    negated: &'a [bool; 320],
-    ranges: &'a [usize; 320],
+    columns: &'a [u32; 1280],
     low: &'a [u32; 2048],
     high: &'a [u32; 2048],
     relations: &'a [usize; 40],
@@ -112,12 +96,12 @@ pub fn fill<'a>(
     tail: &mut [u64; 40],
     to: usize,
 )
-    requires { ⌜ (to ≤ 40) × Floored (table (now operand) (now modulus) (now negated) (now ranges) (now low) (now high)) (now relations) (now whole) (now part) (now tail) ⌝ }
-    ensures { λ _. ⌜ Floored (table (now (operand .entry)) (now (modulus .entry)) (now (negated .entry)) (now (ranges .entry)) (now (low .entry)) (now (high .entry))) (now (relations .entry)) (now (whole .exit)) (now (part .exit)) (now (tail .exit)) ⌝ }
+    requires { ⌜ (to ≤ 40) × Floored (table (now columns) (now low) (now high)) (now relations) (now whole) (now part) (now tail) ⌝ }
+    ensures { λ _. ⌜ Floored (table (now (columns .entry)) (now (low .entry)) (now (high .entry))) (now (relations .entry)) (now (whole .exit)) (now (part .exit)) (now (tail .exit)) ⌝ }
 {
     let mut j: usize = 0;
     while j < to {
-        let l = clause_floors(operand, modulus, negated, ranges, low, high, relations, j);
+        let l = clause_floors(columns, low, high, relations, j);
         whole[j] = l.whole;
         part[j] = l.part;
         tail[j] = l.tail;

@@ -87,10 +87,7 @@ pub fn clauses_end(ends: &[usize; 6], n: usize) -> usize
 
 // The least number of the clauses k and l joined, with any v.
 fn joined_spot<'a>(
-    operand: &'a [u8; 320],
-    modulus: &'a [u32; 320],
-    negated: &'a [bool; 320],
-    ranges: &'a [usize; 320],
+    columns: &'a [u32; 1280],
     low: &'a [u32; 2048],
     high: &'a [u32; 2048],
     relations: &'a [usize; 40],
@@ -101,9 +98,9 @@ fn joined_spot<'a>(
     k: usize,
     l: usize,
 ) -> Witness
-    requires { ⌜ (k < 40) × (l < 40) × Floored (table (now operand) (now modulus) (now negated) (now ranges) (now low) (now high)) (now relations) (now whole) (now part) (now tail) ⌝ }
-    requires { ⌜ (getD (now profiles) k 0 ≡ profileOf (clauseAt (table (now operand) (now modulus) (now negated) (now ranges) (now low) (now high)) (now relations) k)) × (getD (now profiles) l 0 ≡ profileOf (clauseAt (table (now operand) (now modulus) (now negated) (now ranges) (now low) (now high)) (now relations) l)) ⌝ }
-    ensures { λ r. ⌜ (spotRank r ≡ clauseRank (clauseAt (table (now (operand .entry)) (now (modulus .entry)) (now (negated .entry)) (now (ranges .entry)) (now (low .entry)) (now (high .entry))) (now (relations .entry)) k ++ clauseAt (table (now (operand .entry)) (now (modulus .entry)) (now (negated .entry)) (now (ranges .entry)) (now (low .entry)) (now (high .entry))) (now (relations .entry)) l)) × Proper r ⌝ }
+    requires { ⌜ (k < 40) × (l < 40) × Floored (table (now columns) (now low) (now high)) (now relations) (now whole) (now part) (now tail) ⌝ }
+    requires { ⌜ (getD (now profiles) k 0 ≡ profileOf (clauseAt (table (now columns) (now low) (now high)) (now relations) k)) × (getD (now profiles) l 0 ≡ profileOf (clauseAt (table (now columns) (now low) (now high)) (now relations) l)) ⌝ }
+    ensures { λ r. ⌜ (spotRank r ≡ clauseRank (clauseAt (table (now (columns .entry)) (now (low .entry)) (now (high .entry))) (now (relations .entry)) k ++ clauseAt (table (now (columns .entry)) (now (low .entry)) (now (high .entry))) (now (relations .entry)) l)) × Proper r ⌝ }
 {
     let from = relations_start(relations, k);
     let to = relations_stop(relations, k);
@@ -121,26 +118,12 @@ fn joined_spot<'a>(
     };
     let p = profiles[k] & profiles[l];
     let floors = floors::pair_floors(whole, part, tail, k, l);
-    search::least_admitted(
-        operand,
-        modulus,
-        negated,
-        ranges,
-        low,
-        high,
-        s,
-        b,
-        p,
-        floors,
-    )
+    search::least_admitted(columns, low, high, s, b, p, floors)
 }
 
 // The earliest of `best` and the least numbers of the clause k with each of those from place `from` to before `to`.
 fn with_each<'a>(
-    operand: &'a [u8; 320],
-    modulus: &'a [u32; 320],
-    negated: &'a [bool; 320],
-    ranges: &'a [usize; 320],
+    columns: &'a [u32; 1280],
     low: &'a [u32; 2048],
     high: &'a [u32; 2048],
     relations: &'a [usize; 40],
@@ -153,18 +136,15 @@ fn with_each<'a>(
     to: usize,
     first: Witness,
 ) -> Witness
-    requires { ⌜ (k < 40) × (to ≤ 40) × Proper first × Floored (table (now operand) (now modulus) (now negated) (now ranges) (now low) (now high)) (now relations) (now whole) (now part) (now tail) ⌝ }
-    requires { ⌜ (getD (now profiles) k 0 ≡ profileOf (clauseAt (table (now operand) (now modulus) (now negated) (now ranges) (now low) (now high)) (now relations) k)) × Profiled (table (now operand) (now modulus) (now negated) (now ranges) (now low) (now high)) (now relations) (now profiles) to ⌝ }
-    ensures { λ r. ⌜ (spotRank r ≡ min (spotRank first) (fastRank (withEach (clauseAt (table (now (operand .entry)) (now (modulus .entry)) (now (negated .entry)) (now (ranges .entry)) (now (low .entry)) (now (high .entry))) (now (relations .entry)) k) (clausesIn (table (now (operand .entry)) (now (modulus .entry)) (now (negated .entry)) (now (ranges .entry)) (now (low .entry)) (now (high .entry))) (now (relations .entry)) from to)))) × Proper r ⌝ }
+    requires { ⌜ (k < 40) × (to ≤ 40) × Proper first × Floored (table (now columns) (now low) (now high)) (now relations) (now whole) (now part) (now tail) ⌝ }
+    requires { ⌜ (getD (now profiles) k 0 ≡ profileOf (clauseAt (table (now columns) (now low) (now high)) (now relations) k)) × Profiled (table (now columns) (now low) (now high)) (now relations) (now profiles) to ⌝ }
+    ensures { λ r. ⌜ (spotRank r ≡ min (spotRank first) (fastRank (withEach (clauseAt (table (now (columns .entry)) (now (low .entry)) (now (high .entry))) (now (relations .entry)) k) (clausesIn (table (now (columns .entry)) (now (low .entry)) (now (high .entry))) (now (relations .entry)) from to)))) × Proper r ⌝ }
 {
     let mut best = first;
     let mut l = from;
     while l < to {
         let one = joined_spot(
-            operand,
-            modulus,
-            negated,
-            ranges,
+            columns,
             low,
             high,
             relations,
@@ -183,10 +163,7 @@ fn with_each<'a>(
 
 // The least number of the clauses from place `from` to before `to` with those from `start` to before `stop`.
 fn both_spot<'a>(
-    operand: &'a [u8; 320],
-    modulus: &'a [u32; 320],
-    negated: &'a [bool; 320],
-    ranges: &'a [usize; 320],
+    columns: &'a [u32; 1280],
     low: &'a [u32; 2048],
     high: &'a [u32; 2048],
     relations: &'a [usize; 40],
@@ -199,18 +176,15 @@ fn both_spot<'a>(
     start: usize,
     stop: usize,
 ) -> Witness
-    requires { ⌜ (to ≤ 40) × (stop ≤ 40) × Floored (table (now operand) (now modulus) (now negated) (now ranges) (now low) (now high)) (now relations) (now whole) (now part) (now tail) ⌝ }
-    requires { ⌜ Profiled (table (now operand) (now modulus) (now negated) (now ranges) (now low) (now high)) (now relations) (now profiles) to × Profiled (table (now operand) (now modulus) (now negated) (now ranges) (now low) (now high)) (now relations) (now profiles) stop ⌝ }
-    ensures { λ r. ⌜ (spotRank r ≡ fastRank (bothOf (clausesIn (table (now (operand .entry)) (now (modulus .entry)) (now (negated .entry)) (now (ranges .entry)) (now (low .entry)) (now (high .entry))) (now (relations .entry)) from to) (clausesIn (table (now (operand .entry)) (now (modulus .entry)) (now (negated .entry)) (now (ranges .entry)) (now (low .entry)) (now (high .entry))) (now (relations .entry)) start stop))) × Proper r ⌝ }
+    requires { ⌜ (to ≤ 40) × (stop ≤ 40) × Floored (table (now columns) (now low) (now high)) (now relations) (now whole) (now part) (now tail) ⌝ }
+    requires { ⌜ Profiled (table (now columns) (now low) (now high)) (now relations) (now profiles) to × Profiled (table (now columns) (now low) (now high)) (now relations) (now profiles) stop ⌝ }
+    ensures { λ r. ⌜ (spotRank r ≡ fastRank (bothOf (clausesIn (table (now (columns .entry)) (now (low .entry)) (now (high .entry))) (now (relations .entry)) from to) (clausesIn (table (now (columns .entry)) (now (low .entry)) (now (high .entry))) (now (relations .entry)) start stop))) × Proper r ⌝ }
 {
     let mut best = order::nowhere();
     let mut k = from;
     while k < to {
         best = with_each(
-            operand,
-            modulus,
-            negated,
-            ranges,
+            columns,
             low,
             high,
             relations,
@@ -230,10 +204,7 @@ fn both_spot<'a>(
 
 // The least number that meets the rules p and q.
 pub fn pair_spot<'a>(
-    operand: &'a [u8; 320],
-    modulus: &'a [u32; 320],
-    negated: &'a [bool; 320],
-    ranges: &'a [usize; 320],
+    columns: &'a [u32; 1280],
     low: &'a [u32; 2048],
     high: &'a [u32; 2048],
     relations: &'a [usize; 40],
@@ -245,19 +216,16 @@ pub fn pair_spot<'a>(
     p: usize,
     q: usize,
 ) -> Witness
-    requires { ⌜ (p < 6) × (q < 6) × Floored (table (now operand) (now modulus) (now negated) (now ranges) (now low) (now high)) (now relations) (now whole) (now part) (now tail) ⌝ }
-    requires { ⌜ Profiled (table (now operand) (now modulus) (now negated) (now ranges) (now low) (now high)) (now relations) (now profiles) (min (getD (now clauses) p 0) 40) × Profiled (table (now operand) (now modulus) (now negated) (now ranges) (now low) (now high)) (now relations) (now profiles) (min (getD (now clauses) q 0) 40) ⌝ }
-    ensures { λ r. ⌜ (spotRank r ≡ fastRank (bothOf (ruleClauses (table (now (operand .entry)) (now (modulus .entry)) (now (negated .entry)) (now (ranges .entry)) (now (low .entry)) (now (high .entry))) (now (relations .entry)) (now (clauses .entry)) p) (ruleClauses (table (now (operand .entry)) (now (modulus .entry)) (now (negated .entry)) (now (ranges .entry)) (now (low .entry)) (now (high .entry))) (now (relations .entry)) (now (clauses .entry)) q))) × Proper r ⌝ }
+    requires { ⌜ (p < 6) × (q < 6) × Floored (table (now columns) (now low) (now high)) (now relations) (now whole) (now part) (now tail) ⌝ }
+    requires { ⌜ Profiled (table (now columns) (now low) (now high)) (now relations) (now profiles) (min (getD (now clauses) p 0) 40) × Profiled (table (now columns) (now low) (now high)) (now relations) (now profiles) (min (getD (now clauses) q 0) 40) ⌝ }
+    ensures { λ r. ⌜ (spotRank r ≡ fastRank (bothOf (ruleClauses (table (now (columns .entry)) (now (low .entry)) (now (high .entry))) (now (relations .entry)) (now (clauses .entry)) p) (ruleClauses (table (now (columns .entry)) (now (low .entry)) (now (high .entry))) (now (relations .entry)) (now (clauses .entry)) q))) × Proper r ⌝ }
 {
     let from = clauses_start(clauses, p);
     let to = clauses_stop(clauses, p);
     let start = clauses_start(clauses, q);
     let stop = clauses_stop(clauses, q);
     both_spot(
-        operand,
-        modulus,
-        negated,
-        ranges,
+        columns,
         low,
         high,
         relations,

@@ -31,10 +31,7 @@ fn rule_count(count: usize) -> usize
 
 // Lent as slices the arrays have the lengths that they are declared with; there is nothing else to do.
 fn sized<'a>(
-    operand: &'a [u8],
-    modulus: &'a [u32],
-    negated: &'a [bool],
-    ranges: &'a [usize],
+    columns: &'a [u32],
     low: &'a [u32],
     high: &'a [u32],
     relations: &'a [usize],
@@ -44,10 +41,7 @@ fn sized<'a>(
 
 // The check of the first `count` rules in a parsed pack's arrays.
 pub fn check<'a>(
-    operand: &'a [u8; 320],
-    modulus: &'a [u32; 320],
-    negated: &'a [bool; 320],
-    ranges: &'a [usize; 320],
+    columns: &'a [u32; 1280],
     low: &'a [u32; 2048],
     high: &'a [u32; 2048],
     relations: &'a [usize; 40],
@@ -55,41 +49,18 @@ pub fn check<'a>(
     clauses: &'a [usize; 6],
     count: usize,
 ) -> Checked
-    ensures { λ r. ⌜ r ≡ checkOf (heldRules (lent (now (low .entry)) (now (high .entry)) (now (operand .entry)) (now (modulus .entry)) (now (negated .entry)) (now (ranges .entry)) (now (relations .entry)) (now (keyword .entry)) (now (clauses .entry)) count)) ⌝ }
+    ensures { λ r. ⌜ r ≡ checkOf (heldRules (lent (now (low .entry)) (now (high .entry)) (now (columns .entry)) (now (relations .entry)) (now (keyword .entry)) (now (clauses .entry)) count)) ⌝ }
 {
-    sized(
-        operand,
-        modulus,
-        negated,
-        ranges,
-        low,
-        high,
-        relations,
-        keyword,
-        clauses,
-    );
+    sized(columns, low, high, relations, keyword, clauses);
     let n = rule_count(count);
     let end = joined::clauses_end(clauses, n);
     let mut whole: [u64; 40] = [0; 40];
     let mut part: [u64; 40] = [0; 40];
     let mut tail: [u64; 40] = [0; 40];
     let mut profiles: [u64; 40] = [0; 40];
-    profiled::fill(
-        operand,
-        modulus,
-        negated,
-        ranges,
-        low,
-        high,
-        relations,
-        &mut profiles,
-        end,
-    );
+    profiled::fill(columns, low, high, relations, &mut profiles, end);
     floors::fill(
-        operand,
-        modulus,
-        negated,
-        ranges,
+        columns,
         low,
         high,
         relations,
@@ -99,10 +70,7 @@ pub fn check<'a>(
         end,
     );
     first::first_pair(
-        operand,
-        modulus,
-        negated,
-        ranges,
+        columns,
         low,
         high,
         relations,

@@ -8,21 +8,18 @@ use crate::joined;
 
 // The profile of the clause j.
 fn profile_of<'a>(
-    operand: &'a [u8; 320],
-    modulus: &'a [u32; 320],
-    negated: &'a [bool; 320],
-    ranges: &'a [usize; 320],
+    columns: &'a [u32; 1280],
     low: &'a [u32; 2048],
     high: &'a [u32; 2048],
     relations: &'a [usize; 40],
     j: usize,
 ) -> u64
     requires { ⌜ j < 40 ⌝ }
-    ensures { λ r. ⌜ r ≡ profileOf (clauseAt (table (now (operand .entry)) (now (modulus .entry)) (now (negated .entry)) (now (ranges .entry)) (now (low .entry)) (now (high .entry))) (now (relations .entry)) j) ⌝ }
+    ensures { λ r. ⌜ r ≡ profileOf (clauseAt (table (now (columns .entry)) (now (low .entry)) (now (high .entry))) (now (relations .entry)) j) ⌝ }
 {
     let from = joined::relations_start(relations, j);
     let to = joined::relations_stop(relations, j);
-    profile::clause_profile(operand, modulus, negated, ranges, low, high, from, to)
+    profile::clause_profile(columns, low, high, from, to)
 }
 
 // Lent as a slice the array has the length that it is declared with.
@@ -39,10 +36,7 @@ fn put(profiles: &mut [u64; 40], j: usize, p: u64)
 
 // Fills in the profiles of the first `to` clauses.
 pub fn fill<'a>(
-    operand: &'a [u8; 320],
-    modulus: &'a [u32; 320],
-    negated: &'a [bool; 320],
-    ranges: &'a [usize; 320],
+    columns: &'a [u32; 1280],
     low: &'a [u32; 2048],
     high: &'a [u32; 2048],
     relations: &'a [usize; 40],
@@ -50,11 +44,11 @@ pub fn fill<'a>(
     to: usize,
 )
     requires { ⌜ to ≤ 40 ⌝ }
-    ensures { λ _. ⌜ Profiled (table (now (operand .entry)) (now (modulus .entry)) (now (negated .entry)) (now (ranges .entry)) (now (low .entry)) (now (high .entry))) (now (relations .entry)) (now (profiles .exit)) to ⌝ }
+    ensures { λ _. ⌜ Profiled (table (now (columns .entry)) (now (low .entry)) (now (high .entry))) (now (relations .entry)) (now (profiles .exit)) to ⌝ }
 {
     let mut j: usize = 0;
     while j < to {
-        let p = profile_of(operand, modulus, negated, ranges, low, high, relations, j);
+        let p = profile_of(columns, low, high, relations, j);
         put(profiles, j, p);
         j += 1;
     }

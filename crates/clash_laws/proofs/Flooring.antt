@@ -14,7 +14,7 @@ use Rattle.decimal.specs.Choice.{if_then_else_, both, either}
 use Rattle.decimal.proofs.Choices.{tested, not-both}
 use Rattle.number.specs.Limits.{maxExponent, maxDigits, maxPlaces}
 use Rattle.rules.specs.Syntax.{Relation}
-use Rattle.rules.specs.Stretch.{Table, relationsIn, relationAt, startAt, clauseAt}
+use Rattle.rules.specs.Stretch.{Table, relationsIn, relationAt, startAt, rangesFromAt, clauseAt}
 use Rattle.rules.proofs.Stretches.{stretch-nil}
 use Rattle.plural.specs.Meaning.{all}
 use Rattle.least.specs.Seek.{Least}
@@ -187,14 +187,14 @@ module _ (T : Table) (R : List ℕ) where
 
 -- ---- a long clause
 
-pub long-none : (ranges : List ℕ) (least from to : ℕ) → to ≤ from → false ≡ longIn ranges least from to
-long-none ranges least from to h = rw (le-ltb from to h)
+pub long-none : (columns : List ℕ) (least from to : ℕ) → to ≤ from → false ≡ longIn columns least from to
+long-none columns least from to h = rw (le-ltb from to h)
 
-pub long-less : (ranges : List ℕ) (least from to a b : ℕ) → from < to → a ≡ startAt ranges from → b ≡ startAt ranges to → b < a → false ≡ longIn ranges least from to
-long-less ranges least from to a b h ea eb l = rw (lt-ltb from to h) (sym (le-ltb least (startAt ranges to - startAt ranges from) (omega arith)))
+pub long-less : (columns : List ℕ) (least from to a b : ℕ) → from < to → a ≡ rangesFromAt columns from → b ≡ rangesFromAt columns to → b < a → false ≡ longIn columns least from to
+long-less columns least from to a b h ea eb l = rw (lt-ltb from to h) (sym (le-ltb least (rangesFromAt columns to - rangesFromAt columns from) (omega arith)))
 
-pub long-some : (ranges : List ℕ) (least from to a b : ℕ) → from < to → a ≡ startAt ranges from → b ≡ startAt ranges to → ltb least (b - a) ≡ longIn ranges least from to
-long-some ranges least from to a b h ea eb = rw (lt-ltb from to h) (ap₂ (λ (x y : ℕ). ltb least (y - x)) ea eb)
+pub long-some : (columns : List ℕ) (least from to a b : ℕ) → from < to → a ≡ rangesFromAt columns from → b ≡ rangesFromAt columns to → ltb least (b - a) ≡ longIn columns least from to
+long-some columns least from to a b h ea eb = rw (lt-ltb from to h) (ap₂ (λ (x y : ℕ). ltb least (y - x)) ea eb)
 
 -- ---- where no relation asks n, i is the same whether f is 0 or not
 

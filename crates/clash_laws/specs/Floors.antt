@@ -8,7 +8,7 @@ use lib.ListN.{getD}
 use Rattle.decimal.specs.Choice.{if_then_else_}
 use Rattle.number.specs.Limits.{maxDigits}
 use Rattle.rules.specs.Syntax.{Relation}
-use Rattle.rules.specs.Stretch.{startAt, Table, clauseAt}
+use Rattle.rules.specs.Stretch.{rangesFromAt, Table, clauseAt}
 use Rattle.clash_laws.specs.Fast.{Query, queryI, alone, passesAll}
 use Rattle.clash_laws.specs.Profile.{wholeDigits, partDigits}
 use Rattle.clash_laws.specs.declared.Floors.{Floors}
@@ -42,4 +42,4 @@ Floored T relations whole part tail = (j : ℕ) → j < 40 → Under (clauseAt T
 
 -- more than `least` ranges belong to the relations from place `from` to before `to`
 abbrev pub longIn : List ℕ → ℕ → ℕ → ℕ → Bool
-longIn ranges least from to = if ltb from to then ltb least (startAt ranges to - startAt ranges from) else false
+longIn columns least from to = if ltb from to then ltb least (rangesFromAt columns to - rangesFromAt columns from) else false

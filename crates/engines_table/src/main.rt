@@ -22,10 +22,7 @@ pub struct Answers {
 
 // Both answers: they are equal, for every pack.
 fn ask_both<'a>(
-    operand: &'a [u8; 320],
-    modulus: &'a [u32; 320],
-    negated: &'a [bool; 320],
-    ranges: &'a [usize; 320],
+    columns: &'a [u32; 1280],
     low: &'a [u32; 2048],
     high: &'a [u32; 2048],
     relations: &'a [usize; 40],
@@ -33,32 +30,10 @@ fn ask_both<'a>(
     clauses: &'a [usize; 6],
     count: usize,
 ) -> Answers
-    ensures { λ r. ⌜ (r .fast ≡ r .plain) × (r .plain ≡ checkOf (heldRules (lent (now (low .entry)) (now (high .entry)) (now (operand .entry)) (now (modulus .entry)) (now (negated .entry)) (now (ranges .entry)) (now (relations .entry)) (now (keyword .entry)) (now (clauses .entry)) count))) ⌝ }
+    ensures { λ r. ⌜ (r .fast ≡ r .plain) × (r .plain ≡ checkOf (heldRules (lent (now (low .entry)) (now (high .entry)) (now (columns .entry)) (now (relations .entry)) (now (keyword .entry)) (now (clauses .entry)) count))) ⌝ }
 {
-    let fast = clash::check(
-        operand,
-        modulus,
-        negated,
-        ranges,
-        low,
-        high,
-        relations,
-        keyword,
-        clauses,
-        count,
-    );
-    let plain = plain_check::check(
-        operand,
-        modulus,
-        negated,
-        ranges,
-        low,
-        high,
-        relations,
-        keyword,
-        clauses,
-        count,
-    );
+    let fast = clash::check(columns, low, high, relations, keyword, clauses, count);
+    let plain = plain_check::check(columns, low, high, relations, keyword, clauses, count);
     Answers {
         fast: fast,
         plain: plain,
@@ -188,10 +163,7 @@ fn print_refusal(r: Refusal) {
 fn print_check(pack: &[u8]) {
     let mut low: [u32; 2048] = [0; 2048];
     let mut high: [u32; 2048] = [0; 2048];
-    let mut operand: [u8; 320] = [0; 320];
-    let mut modulus: [u32; 320] = [0; 320];
-    let mut negated = [false; 320];
-    let mut ranges: [usize; 320] = [0; 320];
+    let mut columns: [u32; 1280] = [0; 1280];
     let mut relations: [usize; 40] = [0; 40];
     let mut keyword: [u8; 6] = [0; 6];
     let mut clauses: [usize; 6] = [0; 6];
@@ -199,20 +171,14 @@ fn print_check(pack: &[u8]) {
         pack,
         &mut low,
         &mut high,
-        &mut operand,
-        &mut modulus,
-        &mut negated,
-        &mut ranges,
+        &mut columns,
         &mut relations,
         &mut keyword,
         &mut clauses,
     );
     match read {
         Read::Rules(count) => print_answers(ask_both(
-            &operand,
-            &modulus,
-            &negated,
-            &ranges,
+            &columns,
             &low,
             &high,
             &relations,

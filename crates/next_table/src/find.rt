@@ -23,10 +23,7 @@ fn lesser(a: u64, b: u64) -> u64
 // Looks at the run of p. Where the relations of the level do not hold, its end is where to go on; where
 // they do, the next number of the levels below j is: it is found where it lies in the run.
 fn look<'a>(
-    operand: &'a [u8; 320],
-    modulus: &'a [u32; 320],
-    negated: &'a [bool; 320],
-    ranges: &'a [usize; 320],
+    columns: &'a [u32; 1280],
     low: &'a [u32; 2048],
     high: &'a [u32; 2048],
     s: Span,
@@ -43,29 +40,14 @@ fn look<'a>(
     says: &mut [bool; 16],
     stop: &mut [u64; 16],
 ) -> Found
-    requires { ⌜ Fit q × Room q end × (p < end) × (s .to ≤ 320) × (s .stop ≤ 320) × (sizeOf s ≤ 16) × Listed (table (now operand) (now modulus) (now negated) (now ranges) (now low) (now high)) s q level (now list) count ⌝ }
+    requires { ⌜ Fit q × Room q end × (p < end) × (s .to ≤ 320) × (s .stop ≤ 320) × (sizeOf s ≤ 16) × Listed (table (now columns) (now low) (now high)) s q level (now list) count ⌝ }
     requires { ⌜ Laid (now starts) (now ends) (now at) j ⌝ }
-    requires { ⌜ Tabled (below q (joinedIn (table (now operand) (now modulus) (now negated) (now ranges) (now low) (now high)) s)) (now starts) (now ends) (now at) j ⌝ }
-    requires { ⌜ Kept (table (now operand) (now modulus) (now negated) (now ranges) (now low) (now high)) s q level p (now says) (now stop) ⌝ }
-    ensures { λ r. ⌜ Looked (own q (joinedIn (table (now (operand .entry)) (now (modulus .entry)) (now (negated .entry)) (now (ranges .entry)) (now (low .entry)) (now (high .entry))) s) level) (below q (joinedIn (table (now (operand .entry)) (now (modulus .entry)) (now (negated .entry)) (now (ranges .entry)) (now (low .entry)) (now (high .entry))) s) j) p end (r .at) (r .stop) ⌝ }
-    ensures { λ _. ⌜ Kept (table (now (operand .entry)) (now (modulus .entry)) (now (negated .entry)) (now (ranges .entry)) (now (low .entry)) (now (high .entry))) s q level p (now (says .exit)) (now (stop .exit)) ⌝ }
+    requires { ⌜ Tabled (below q (joinedIn (table (now columns) (now low) (now high)) s)) (now starts) (now ends) (now at) j ⌝ }
+    requires { ⌜ Kept (table (now columns) (now low) (now high)) s q level p (now says) (now stop) ⌝ }
+    ensures { λ r. ⌜ Looked (own q (joinedIn (table (now (columns .entry)) (now (low .entry)) (now (high .entry))) s) level) (below q (joinedIn (table (now (columns .entry)) (now (low .entry)) (now (high .entry))) s) j) p end (r .at) (r .stop) ⌝ }
+    ensures { λ _. ⌜ Kept (table (now (columns .entry)) (now (low .entry)) (now (high .entry))) s q level p (now (says .exit)) (now (stop .exit)) ⌝ }
 {
-    let run = clause_run(
-        operand,
-        modulus,
-        negated,
-        ranges,
-        low,
-        high,
-        s,
-        q,
-        list,
-        count,
-        level,
-        p,
-        says,
-        stop,
-    );
+    let run = clause_run(columns, low, high, s, q, list, count, level, p, says, stop);
     if run.says {
         return Found {
             at: next::next(starts, ends, at, j, p),
@@ -82,10 +64,7 @@ fn look<'a>(
 // the levels below j, and up to where the relations of the level hold; or `end`, and past the numbers
 // that were looked at.
 pub fn find<'a>(
-    operand: &'a [u8; 320],
-    modulus: &'a [u32; 320],
-    negated: &'a [bool; 320],
-    ranges: &'a [usize; 320],
+    columns: &'a [u32; 1280],
     low: &'a [u32; 2048],
     high: &'a [u32; 2048],
     s: Span,
@@ -102,20 +81,17 @@ pub fn find<'a>(
     says: &mut [bool; 16],
     stop: &mut [u64; 16],
 ) -> Found
-    requires { ⌜ Fit q × Room q end × (from ≤ end) × (s .to ≤ 320) × (s .stop ≤ 320) × (sizeOf s ≤ 16) × Listed (table (now operand) (now modulus) (now negated) (now ranges) (now low) (now high)) s q level (now list) count ⌝ }
+    requires { ⌜ Fit q × Room q end × (from ≤ end) × (s .to ≤ 320) × (s .stop ≤ 320) × (sizeOf s ≤ 16) × Listed (table (now columns) (now low) (now high)) s q level (now list) count ⌝ }
     requires { ⌜ Laid (now starts) (now ends) (now at) j ⌝ }
-    requires { ⌜ Tabled (below q (joinedIn (table (now operand) (now modulus) (now negated) (now ranges) (now low) (now high)) s)) (now starts) (now ends) (now at) j ⌝ }
-    requires { ⌜ Kept (table (now operand) (now modulus) (now negated) (now ranges) (now low) (now high)) s q level from (now says) (now stop) ⌝ }
-    ensures { λ r. ⌜ Opens (own q (joinedIn (table (now (operand .entry)) (now (modulus .entry)) (now (negated .entry)) (now (ranges .entry)) (now (low .entry)) (now (high .entry))) s) level) (below q (joinedIn (table (now (operand .entry)) (now (modulus .entry)) (now (negated .entry)) (now (ranges .entry)) (now (low .entry)) (now (high .entry))) s) j) from end (r .at) (r .stop) ⌝ }
-    ensures { λ r. ⌜ Kept (table (now (operand .entry)) (now (modulus .entry)) (now (negated .entry)) (now (ranges .entry)) (now (low .entry)) (now (high .entry))) s q level (r .stop) (now (says .exit)) (now (stop .exit)) ⌝ }
+    requires { ⌜ Tabled (below q (joinedIn (table (now columns) (now low) (now high)) s)) (now starts) (now ends) (now at) j ⌝ }
+    requires { ⌜ Kept (table (now columns) (now low) (now high)) s q level from (now says) (now stop) ⌝ }
+    ensures { λ r. ⌜ Opens (own q (joinedIn (table (now (columns .entry)) (now (low .entry)) (now (high .entry))) s) level) (below q (joinedIn (table (now (columns .entry)) (now (low .entry)) (now (high .entry))) s) j) from end (r .at) (r .stop) ⌝ }
+    ensures { λ r. ⌜ Kept (table (now (columns .entry)) (now (low .entry)) (now (high .entry))) s q level (r .stop) (now (says .exit)) (now (stop .exit)) ⌝ }
 {
     let mut p = from;
     while p < end {
         let f = look(
-            operand,
-            modulus,
-            negated,
-            ranges,
+            columns,
             low,
             high,
             s,

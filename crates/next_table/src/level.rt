@@ -26,10 +26,7 @@ const LEVELS: usize = 7;
 // allow, each from the first number on that passes the levels below. Returns the place behind the
 // last, or one past the room where it does not suffice.
 fn fill_level<'a>(
-    operand: &'a [u8; 320],
-    modulus: &'a [u32; 320],
-    negated: &'a [bool; 320],
-    ranges: &'a [usize; 320],
+    columns: &'a [u32; 1280],
     low: &'a [u32; 2048],
     high: &'a [u32; 2048],
     s: Span,
@@ -41,12 +38,12 @@ fn fill_level<'a>(
     j: usize,
     m: u64,
 ) -> usize
-    requires { ⌜ Fit q × (s .to ≤ 320) × (s .stop ≤ 320) × (sizeOf s ≤ 16) × (j < 7) × (m ≡ 10 ^ j) × Told (table (now operand) (now modulus) (now negated) (now ranges) (now low) (now high)) s q (now tiers) ⌝ }
+    requires { ⌜ Fit q × (s .to ≤ 320) × (s .stop ≤ 320) × (sizeOf s ≤ 16) × (j < 7) × (m ≡ 10 ^ j) × Told (table (now columns) (now low) (now high)) s q (now tiers) ⌝ }
     requires { ⌜ Laid (now starts) (now ends) (now at) j ⌝ }
-    requires { ⌜ Tabled (below q (joinedIn (table (now operand) (now modulus) (now negated) (now ranges) (now low) (now high)) s)) (now starts) (now ends) (now at) j ⌝ }
+    requires { ⌜ Tabled (below q (joinedIn (table (now columns) (now low) (now high)) s)) (now starts) (now ends) (now at) j ⌝ }
     ensures { λ _. ⌜ Laid (now (starts .exit)) (now (ends .exit)) (now (at .entry)) j ⌝ }
-    ensures { λ _. ⌜ Tabled (below q (joinedIn (table (now (operand .entry)) (now (modulus .entry)) (now (negated .entry)) (now (ranges .entry)) (now (low .entry)) (now (high .entry))) s)) (now (starts .exit)) (now (ends .exit)) (now (at .entry)) j ⌝ }
-    ensures { λ r. ⌜ (r ≤ 288 → Covers (own q (joinedIn (table (now (operand .entry)) (now (modulus .entry)) (now (negated .entry)) (now (ranges .entry)) (now (low .entry)) (now (high .entry))) s) j) (below q (joinedIn (table (now (operand .entry)) (now (modulus .entry)) (now (negated .entry)) (now (ranges .entry)) (now (low .entry)) (now (high .entry))) s) j) (segmentsIn (now (starts .exit)) (now (ends .exit)) (getD (now (at .entry)) j 0) r) (10 ^ j)) ⌝ }
+    ensures { λ _. ⌜ Tabled (below q (joinedIn (table (now (columns .entry)) (now (low .entry)) (now (high .entry))) s)) (now (starts .exit)) (now (ends .exit)) (now (at .entry)) j ⌝ }
+    ensures { λ r. ⌜ (r ≤ 288 → Covers (own q (joinedIn (table (now (columns .entry)) (now (low .entry)) (now (high .entry))) s) j) (below q (joinedIn (table (now (columns .entry)) (now (low .entry)) (now (high .entry))) s) j) (segmentsIn (now (starts .exit)) (now (ends .exit)) (getD (now (at .entry)) j 0) r) (10 ^ j)) ⌝ }
 {
     let mut says = [false; 16];
     let mut stop: [u64; 16] = [0; 16];
@@ -56,10 +53,7 @@ fn fill_level<'a>(
     let mut p: u64 = 0;
     while p < m {
         let f = find::find(
-            operand,
-            modulus,
-            negated,
-            ranges,
+            columns,
             low,
             high,
             s,
@@ -92,10 +86,7 @@ fn fill_level<'a>(
 
 // Adds level j to the table, where its relations are asked; where they are not, it asks nothing.
 fn add_level<'a>(
-    operand: &'a [u8; 320],
-    modulus: &'a [u32; 320],
-    negated: &'a [bool; 320],
-    ranges: &'a [usize; 320],
+    columns: &'a [u32; 1280],
     low: &'a [u32; 2048],
     high: &'a [u32; 2048],
     s: Span,
@@ -108,33 +99,18 @@ fn add_level<'a>(
     j: usize,
     m: u64,
 ) -> Built
-    requires { ⌜ Fit q × (s .to ≤ 320) × (s .stop ≤ 320) × (sizeOf s ≤ 16) × (j < 7) × (m ≡ 10 ^ j) × Told (table (now operand) (now modulus) (now negated) (now ranges) (now low) (now high)) s q (now tiers) ⌝ }
-    requires { ⌜ (on ≡ false → (x : ℕ) → own q (joinedIn (table (now operand) (now modulus) (now negated) (now ranges) (now low) (now high)) s) j x ≡ true) ⌝ }
+    requires { ⌜ Fit q × (s .to ≤ 320) × (s .stop ≤ 320) × (sizeOf s ≤ 16) × (j < 7) × (m ≡ 10 ^ j) × Told (table (now columns) (now low) (now high)) s q (now tiers) ⌝ }
+    requires { ⌜ (on ≡ false → (x : ℕ) → own q (joinedIn (table (now columns) (now low) (now high)) s) j x ≡ true) ⌝ }
     requires { ⌜ Laid (now starts) (now ends) (now at) j ⌝ }
-    requires { ⌜ Tabled (below q (joinedIn (table (now operand) (now modulus) (now negated) (now ranges) (now low) (now high)) s)) (now starts) (now ends) (now at) j ⌝ }
-    ensures { λ r. ⌜ BuiltAs (below q (joinedIn (table (now (operand .entry)) (now (modulus .entry)) (now (negated .entry)) (now (ranges .entry)) (now (low .entry)) (now (high .entry))) s)) (now (starts .exit)) (now (ends .exit)) (now (at .exit)) (j + 1) r ⌝ }
+    requires { ⌜ Tabled (below q (joinedIn (table (now columns) (now low) (now high)) s)) (now starts) (now ends) (now at) j ⌝ }
+    ensures { λ r. ⌜ BuiltAs (below q (joinedIn (table (now (columns .entry)) (now (low .entry)) (now (high .entry))) s)) (now (starts .exit)) (now (ends .exit)) (now (at .exit)) (j + 1) r ⌝ }
 {
     let from = at[j];
     if !on {
         at[j + 1] = from;
         return Built::Stands;
     }
-    let end = fill_level(
-        operand,
-        modulus,
-        negated,
-        ranges,
-        low,
-        high,
-        s,
-        q,
-        tiers,
-        starts,
-        ends,
-        at,
-        j,
-        m,
-    );
+    let end = fill_level(columns, low, high, s, q, tiers, starts, ends, at, j, m);
     if ROOM < end {
         return Built::Full;
     }
@@ -147,10 +123,7 @@ fn add_level<'a>(
 
 // Builds the levels of the table in turn.
 pub fn build<'a>(
-    operand: &'a [u8; 320],
-    modulus: &'a [u32; 320],
-    negated: &'a [bool; 320],
-    ranges: &'a [usize; 320],
+    columns: &'a [u32; 1280],
     low: &'a [u32; 2048],
     high: &'a [u32; 2048],
     s: Span,
@@ -161,19 +134,16 @@ pub fn build<'a>(
     ends: &mut [u32; 288],
     at: &mut [usize; 8],
 ) -> Built
-    requires { ⌜ Fit q × (s .to ≤ 320) × (s .stop ≤ 320) × (sizeOf s ≤ 16) × Told (table (now operand) (now modulus) (now negated) (now ranges) (now low) (now high)) s q (now tiers) ⌝ }
-    requires { ⌜ ((j : ℕ) → j < 9 → getD (now asked) j false ≡ false → (x : ℕ) → own q (joinedIn (table (now operand) (now modulus) (now negated) (now ranges) (now low) (now high)) s) j x ≡ true) ⌝ }
+    requires { ⌜ Fit q × (s .to ≤ 320) × (s .stop ≤ 320) × (sizeOf s ≤ 16) × Told (table (now columns) (now low) (now high)) s q (now tiers) ⌝ }
+    requires { ⌜ ((j : ℕ) → j < 9 → getD (now asked) j false ≡ false → (x : ℕ) → own q (joinedIn (table (now columns) (now low) (now high)) s) j x ≡ true) ⌝ }
     requires { ⌜ Laid (now starts) (now ends) (now at) 0 ⌝ }
-    ensures { λ r. ⌜ BuiltAs (below q (joinedIn (table (now (operand .entry)) (now (modulus .entry)) (now (negated .entry)) (now (ranges .entry)) (now (low .entry)) (now (high .entry))) s)) (now (starts .exit)) (now (ends .exit)) (now (at .exit)) 7 r ⌝ }
+    ensures { λ r. ⌜ BuiltAs (below q (joinedIn (table (now (columns .entry)) (now (low .entry)) (now (high .entry))) s)) (now (starts .exit)) (now (ends .exit)) (now (at .exit)) 7 r ⌝ }
 {
     let mut m: u64 = 1;
     let mut j: usize = 0;
     while j < LEVELS {
         let b = add_level(
-            operand,
-            modulus,
-            negated,
-            ranges,
+            columns,
             low,
             high,
             s,

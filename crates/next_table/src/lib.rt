@@ -72,10 +72,7 @@ fn is_ready(s: Span, q: Query, lo: u64, hi: u64) -> bool
 // The least number from lo on and below hi that passes what the clause asks, or hi; hi too where the
 // search has no room.
 pub fn least_number<'a>(
-    operand: &'a [u8; 320],
-    modulus: &'a [u32; 320],
-    negated: &'a [bool; 320],
-    ranges: &'a [usize; 320],
+    columns: &'a [u32; 1280],
     low: &'a [u32; 2048],
     high: &'a [u32; 2048],
     s: Span,
@@ -83,10 +80,10 @@ pub fn least_number<'a>(
     lo: u64,
     hi: u64,
 ) -> u64
-    ensures { λ r. ⌜ r ≡ leastIn (table (now (operand .entry)) (now (modulus .entry)) (now (negated .entry)) (now (ranges .entry)) (now (low .entry)) (now (high .entry))) s q lo hi ⌝ }
+    ensures { λ r. ⌜ r ≡ leastIn (table (now (columns .entry)) (now (low .entry)) (now (high .entry))) s q lo hi ⌝ }
 {
     if is_ready(s, q, lo, hi) {
-        return search::least(operand, modulus, negated, ranges, low, high, s, q, lo, hi);
+        return search::least(columns, low, high, s, q, lo, hi);
     }
     hi
 }

@@ -37,10 +37,7 @@ const STRAY: usize = 8;
 // most 16 relations, whose moduli are powers of ten, with 16 ranges each, and a segment of the table ends
 // where a range ends or begins or where its level ends.
 fn try_each<'a>(
-    operand: &'a [u8; 320],
-    modulus: &'a [u32; 320],
-    negated: &'a [bool; 320],
-    ranges: &'a [usize; 320],
+    columns: &'a [u32; 1280],
     low: &'a [u32; 2048],
     high: &'a [u32; 2048],
     s: Span,
@@ -49,11 +46,11 @@ fn try_each<'a>(
     hi: u64,
 ) -> u64
     requires { ⌜ Room q hi × (lo ≤ hi) × (s .to ≤ 320) × (s .stop ≤ 320) ⌝ }
-    ensures { λ r. ⌜ Least (passesAll q (joinedIn (table (now (operand .entry)) (now (modulus .entry)) (now (negated .entry)) (now (ranges .entry)) (now (low .entry)) (now (high .entry))) s)) lo hi r ⌝ }
+    ensures { λ r. ⌜ Least (passesAll q (joinedIn (table (now (columns .entry)) (now (low .entry)) (now (high .entry))) s)) lo hi r ⌝ }
 {
     let mut x = lo;
     while x < hi {
-        if passes_at(operand, modulus, negated, ranges, low, high, s, q, x) {
+        if passes_at(columns, low, high, s, q, x) {
             return x;
         }
         x += 1;
@@ -63,10 +60,7 @@ fn try_each<'a>(
 
 // The least number that the relations of the number itself allow.
 fn in_window<'a>(
-    operand: &'a [u8; 320],
-    modulus: &'a [u32; 320],
-    negated: &'a [bool; 320],
-    ranges: &'a [usize; 320],
+    columns: &'a [u32; 1280],
     low: &'a [u32; 2048],
     high: &'a [u32; 2048],
     s: Span,
@@ -75,8 +69,8 @@ fn in_window<'a>(
     lo: u64,
     hi: u64,
 ) -> u64
-    requires { ⌜ Fit q × Room q hi × (lo ≤ hi) × (s .to ≤ 320) × (s .stop ≤ 320) × (sizeOf s ≤ 16) × Told (table (now operand) (now modulus) (now negated) (now ranges) (now low) (now high)) s q (now tiers) ⌝ }
-    ensures { λ r. ⌜ Least (own q (joinedIn (table (now (operand .entry)) (now (modulus .entry)) (now (negated .entry)) (now (ranges .entry)) (now (low .entry)) (now (high .entry))) s) window) lo hi r ⌝ }
+    requires { ⌜ Fit q × Room q hi × (lo ≤ hi) × (s .to ≤ 320) × (s .stop ≤ 320) × (sizeOf s ≤ 16) × Told (table (now columns) (now low) (now high)) s q (now tiers) ⌝ }
+    ensures { λ r. ⌜ Least (own q (joinedIn (table (now (columns .entry)) (now (low .entry)) (now (high .entry))) s) window) lo hi r ⌝ }
 {
     let mut list: [usize; 16] = [0; 16];
     let count = list_level(tiers, size_of(s), WINDOW, &mut list);
@@ -85,10 +79,7 @@ fn in_window<'a>(
     let mut p = lo;
     while p < hi {
         let run = clause_run(
-            operand,
-            modulus,
-            negated,
-            ranges,
+            columns,
             low,
             high,
             s,
@@ -110,10 +101,7 @@ fn in_window<'a>(
 
 // The least of them that passes the levels of the table.
 fn by_table<'a>(
-    operand: &'a [u8; 320],
-    modulus: &'a [u32; 320],
-    negated: &'a [bool; 320],
-    ranges: &'a [usize; 320],
+    columns: &'a [u32; 1280],
     low: &'a [u32; 2048],
     high: &'a [u32; 2048],
     s: Span,
@@ -125,21 +113,18 @@ fn by_table<'a>(
     lo: u64,
     hi: u64,
 ) -> u64
-    requires { ⌜ Fit q × Room q hi × (lo ≤ hi) × (s .to ≤ 320) × (s .stop ≤ 320) × (sizeOf s ≤ 16) × Told (table (now operand) (now modulus) (now negated) (now ranges) (now low) (now high)) s q (now tiers) ⌝ }
-    requires { ⌜ levelled q (joinedIn (table (now operand) (now modulus) (now negated) (now ranges) (now low) (now high)) s) ≡ true ⌝ }
+    requires { ⌜ Fit q × Room q hi × (lo ≤ hi) × (s .to ≤ 320) × (s .stop ≤ 320) × (sizeOf s ≤ 16) × Told (table (now columns) (now low) (now high)) s q (now tiers) ⌝ }
+    requires { ⌜ levelled q (joinedIn (table (now columns) (now low) (now high)) s) ≡ true ⌝ }
     requires { ⌜ Laid (now starts) (now ends) (now at) levels ⌝ }
-    requires { ⌜ Tabled (below q (joinedIn (table (now operand) (now modulus) (now negated) (now ranges) (now low) (now high)) s)) (now starts) (now ends) (now at) levels ⌝ }
-    ensures { λ r. ⌜ Least (passesAll q (joinedIn (table (now (operand .entry)) (now (modulus .entry)) (now (negated .entry)) (now (ranges .entry)) (now (low .entry)) (now (high .entry))) s)) lo hi r ⌝ }
+    requires { ⌜ Tabled (below q (joinedIn (table (now columns) (now low) (now high)) s)) (now starts) (now ends) (now at) levels ⌝ }
+    ensures { λ r. ⌜ Least (passesAll q (joinedIn (table (now (columns .entry)) (now (low .entry)) (now (high .entry))) s)) lo hi r ⌝ }
 {
     let mut list: [usize; 16] = [0; 16];
     let count = list_level(tiers, size_of(s), WINDOW, &mut list);
     let mut says = [false; 16];
     let mut stop: [u64; 16] = [0; 16];
     let f = find::find(
-        operand,
-        modulus,
-        negated,
-        ranges,
+        columns,
         low,
         high,
         s,
@@ -161,10 +146,7 @@ fn by_table<'a>(
 
 // Makes the table and searches by it.
 fn in_table<'a>(
-    operand: &'a [u8; 320],
-    modulus: &'a [u32; 320],
-    negated: &'a [bool; 320],
-    ranges: &'a [usize; 320],
+    columns: &'a [u32; 1280],
     low: &'a [u32; 2048],
     high: &'a [u32; 2048],
     s: Span,
@@ -174,19 +156,16 @@ fn in_table<'a>(
     lo: u64,
     hi: u64,
 ) -> u64
-    requires { ⌜ Fit q × Room q hi × (lo ≤ hi) × (s .to ≤ 320) × (s .stop ≤ 320) × (sizeOf s ≤ 16) × Told (table (now operand) (now modulus) (now negated) (now ranges) (now low) (now high)) s q (now tiers) ⌝ }
-    requires { ⌜ levelled q (joinedIn (table (now operand) (now modulus) (now negated) (now ranges) (now low) (now high)) s) ≡ true ⌝ }
-    requires { ⌜ ((j : ℕ) → j < 9 → getD (now asked) j false ≡ false → (x : ℕ) → own q (joinedIn (table (now operand) (now modulus) (now negated) (now ranges) (now low) (now high)) s) j x ≡ true) ⌝ }
-    ensures { λ r. ⌜ Least (passesAll q (joinedIn (table (now (operand .entry)) (now (modulus .entry)) (now (negated .entry)) (now (ranges .entry)) (now (low .entry)) (now (high .entry))) s)) lo hi r ⌝ }
+    requires { ⌜ Fit q × Room q hi × (lo ≤ hi) × (s .to ≤ 320) × (s .stop ≤ 320) × (sizeOf s ≤ 16) × Told (table (now columns) (now low) (now high)) s q (now tiers) ⌝ }
+    requires { ⌜ levelled q (joinedIn (table (now columns) (now low) (now high)) s) ≡ true ⌝ }
+    requires { ⌜ ((j : ℕ) → j < 9 → getD (now asked) j false ≡ false → (x : ℕ) → own q (joinedIn (table (now columns) (now low) (now high)) s) j x ≡ true) ⌝ }
+    ensures { λ r. ⌜ Least (passesAll q (joinedIn (table (now (columns .entry)) (now (low .entry)) (now (high .entry))) s)) lo hi r ⌝ }
 {
     let mut starts: [u32; 288] = [0; 288];
     let mut ends: [u32; 288] = [0; 288];
     let mut at: [usize; 8] = [0; 8];
     let b = level::build(
-        operand,
-        modulus,
-        negated,
-        ranges,
+        columns,
         low,
         high,
         s,
@@ -198,24 +177,9 @@ fn in_table<'a>(
         &mut at,
     );
     match b {
-        Built::Stands => by_table(
-            operand,
-            modulus,
-            negated,
-            ranges,
-            low,
-            high,
-            s,
-            q,
-            tiers,
-            &starts,
-            &ends,
-            &at,
-            lo,
-            hi,
-        ),
+        Built::Stands => by_table(columns, low, high, s, q, tiers, &starts, &ends, &at, lo, hi),
         Built::Empty => hi,
-        Built::Full => try_each(operand, modulus, negated, ranges, low, high, s, q, lo, hi),
+        Built::Full => try_each(columns, low, high, s, q, lo, hi),
     }
 }
 
@@ -236,10 +200,7 @@ fn asks_remainder(asked: &[bool; 9]) -> bool
 // The least number by the levels that the clause asks. What is asked of the number itself comes first:
 // where it leaves no number, or its least one passes, there is no table.
 fn by_window<'a>(
-    operand: &'a [u8; 320],
-    modulus: &'a [u32; 320],
-    negated: &'a [bool; 320],
-    ranges: &'a [usize; 320],
+    columns: &'a [u32; 1280],
     low: &'a [u32; 2048],
     high: &'a [u32; 2048],
     s: Span,
@@ -249,24 +210,12 @@ fn by_window<'a>(
     lo: u64,
     hi: u64,
 ) -> u64
-    requires { ⌜ Fit q × Room q hi × (lo ≤ hi) × (s .to ≤ 320) × (s .stop ≤ 320) × (sizeOf s ≤ 16) × Told (table (now operand) (now modulus) (now negated) (now ranges) (now low) (now high)) s q (now tiers) ⌝ }
-    requires { ⌜ levelled q (joinedIn (table (now operand) (now modulus) (now negated) (now ranges) (now low) (now high)) s) ≡ true ⌝ }
-    requires { ⌜ ((j : ℕ) → j < 9 → getD (now asked) j false ≡ false → (x : ℕ) → own q (joinedIn (table (now operand) (now modulus) (now negated) (now ranges) (now low) (now high)) s) j x ≡ true) ⌝ }
-    ensures { λ r. ⌜ Least (passesAll q (joinedIn (table (now (operand .entry)) (now (modulus .entry)) (now (negated .entry)) (now (ranges .entry)) (now (low .entry)) (now (high .entry))) s)) lo hi r ⌝ }
+    requires { ⌜ Fit q × Room q hi × (lo ≤ hi) × (s .to ≤ 320) × (s .stop ≤ 320) × (sizeOf s ≤ 16) × Told (table (now columns) (now low) (now high)) s q (now tiers) ⌝ }
+    requires { ⌜ levelled q (joinedIn (table (now columns) (now low) (now high)) s) ≡ true ⌝ }
+    requires { ⌜ ((j : ℕ) → j < 9 → getD (now asked) j false ≡ false → (x : ℕ) → own q (joinedIn (table (now columns) (now low) (now high)) s) j x ≡ true) ⌝ }
+    ensures { λ r. ⌜ Least (passesAll q (joinedIn (table (now (columns .entry)) (now (low .entry)) (now (high .entry))) s)) lo hi r ⌝ }
 {
-    let p = in_window(
-        operand,
-        modulus,
-        negated,
-        ranges,
-        low,
-        high,
-        s,
-        q,
-        tiers,
-        lo,
-        hi,
-    );
+    let p = in_window(columns, low, high, s, q, tiers, lo, hi);
     if hi <= p {
         return hi;
     }
@@ -274,32 +223,16 @@ fn by_window<'a>(
         return p;
     }
     if lo < p {
-        if passes_at(operand, modulus, negated, ranges, low, high, s, q, p) {
+        if passes_at(columns, low, high, s, q, p) {
             return p;
         }
     }
-    in_table(
-        operand,
-        modulus,
-        negated,
-        ranges,
-        low,
-        high,
-        s,
-        q,
-        tiers,
-        asked,
-        p,
-        hi,
-    )
+    in_table(columns, low, high, s, q, tiers, asked, p, hi)
 }
 
 // The same, or where the levels do not serve by trying each.
 fn by_levels<'a>(
-    operand: &'a [u8; 320],
-    modulus: &'a [u32; 320],
-    negated: &'a [bool; 320],
-    ranges: &'a [usize; 320],
+    columns: &'a [u32; 1280],
     low: &'a [u32; 2048],
     high: &'a [u32; 2048],
     s: Span,
@@ -308,42 +241,18 @@ fn by_levels<'a>(
     hi: u64,
 ) -> u64
     requires { ⌜ Fit q × Room q hi × (lo ≤ hi) × (s .to ≤ 320) × (s .stop ≤ 320) ⌝ }
-    ensures { λ r. ⌜ Least (passesAll q (joinedIn (table (now (operand .entry)) (now (modulus .entry)) (now (negated .entry)) (now (ranges .entry)) (now (low .entry)) (now (high .entry))) s)) lo hi r ⌝ }
+    ensures { λ r. ⌜ Least (passesAll q (joinedIn (table (now (columns .entry)) (now (low .entry)) (now (high .entry))) s)) lo hi r ⌝ }
 {
     if RELATIONS < size_of(s) {
-        return try_each(operand, modulus, negated, ranges, low, high, s, q, lo, hi);
+        return try_each(columns, low, high, s, q, lo, hi);
     }
     let mut asked = [false; 9];
     let mut tiers: [usize; 16] = [0; 16];
-    mark_levels(
-        operand,
-        modulus,
-        negated,
-        ranges,
-        low,
-        high,
-        s,
-        q,
-        &mut asked,
-        &mut tiers,
-    );
+    mark_levels(columns, low, high, s, q, &mut asked, &mut tiers);
     if asked[STRAY] {
-        return try_each(operand, modulus, negated, ranges, low, high, s, q, lo, hi);
+        return try_each(columns, low, high, s, q, lo, hi);
     }
-    by_window(
-        operand,
-        modulus,
-        negated,
-        ranges,
-        low,
-        high,
-        s,
-        q,
-        &tiers,
-        &asked,
-        lo,
-        hi,
-    )
+    by_window(columns, low, high, s, q, &tiers, &asked, lo, hi)
 }
 
 // The first number from lo on whose last digit passes.
@@ -360,10 +269,7 @@ fn first(q: Query, lo: u64) -> u64
 // The least number from lo on and below hi that passes what the clause asks, or hi. The first number is
 // tried before the levels are looked at: a search that asks little ends there.
 pub fn least<'a>(
-    operand: &'a [u8; 320],
-    modulus: &'a [u32; 320],
-    negated: &'a [bool; 320],
-    ranges: &'a [usize; 320],
+    columns: &'a [u32; 1280],
     low: &'a [u32; 2048],
     high: &'a [u32; 2048],
     s: Span,
@@ -372,14 +278,14 @@ pub fn least<'a>(
     hi: u64,
 ) -> u64
     requires { ⌜ Fit q × Room q hi × (lo ≤ hi) × (s .to ≤ 320) × (s .stop ≤ 320) ⌝ }
-    ensures { λ r. ⌜ Least (passesAll q (joinedIn (table (now (operand .entry)) (now (modulus .entry)) (now (negated .entry)) (now (ranges .entry)) (now (low .entry)) (now (high .entry))) s)) lo hi r ⌝ }
+    ensures { λ r. ⌜ Least (passesAll q (joinedIn (table (now (columns .entry)) (now (low .entry)) (now (high .entry))) s)) lo hi r ⌝ }
 {
     let x = first(q, lo);
     if hi <= x {
         return hi;
     }
-    if passes_at(operand, modulus, negated, ranges, low, high, s, q, x) {
+    if passes_at(columns, low, high, s, q, x) {
         return x;
     }
-    by_levels(operand, modulus, negated, ranges, low, high, s, q, lo, hi)
+    by_levels(columns, low, high, s, q, lo, hi)
 }

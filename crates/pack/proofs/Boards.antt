@@ -22,20 +22,17 @@ use Rattle.walk.specs.declared.Current.{Current}
 use Rattle.walk.specs.declared.Walk.{Walk}
 use Rattle.walk.specs.declared.Step.{Step}
 use Rattle.walk.proofs.Walks.{walk-value}
-use Rattle.pack.specs.Board.{Arrays, arraysOf, setIf, filled, Board, tokenAt, boardAfter, boards, startWalk, within4096}
+use Rattle.pack.specs.Board.{Arrays, arraysOf, setIf, setRowIf, rowFor, filled, Board, tokenAt, boardAfter, boards, startWalk, within4096}
 
-pub filled-is : (k v : ℕ) (x : Closes) (c d : Counts) (o : Current) (a : Arrays) {low high operand modulus ranges relations keyword clauses : List ℕ} {negated : List Bool}
+pub filled-is : (k v : ℕ) (x : Closes) (c d : Counts) (o : Current) (a : Arrays) {low high columns relations keyword clauses : List ℕ}
     → low ≡ setIf (eqb k 7) (a .low) (c .ranges) v
     → high ≡ setIf (eqb k 9) (setIf (eqb k 7) (a .high) (c .ranges) v) (c .ranges - 1) v
-    → operand ≡ setIf (x .relation) (a .operand) (c .relations) (o .operand)
-    → modulus ≡ setIf (x .relation) (a .modulus) (c .relations) (o .modulus)
-    → negated ≡ setIf (x .relation) (a .negated) (c .relations) (o .negated)
-    → ranges ≡ setIf (x .relation) (a .ranges) (c .relations) (c .ranges)
+    → columns ≡ setRowIf (x .relation) (a .columns) (c .relations) (rowFor o (c .ranges))
     → relations ≡ setIf (x .clause) (a .relations) (c .clauses) (d .relations)
     → keyword ≡ setIf (x .rule) (a .keyword) (c .rules) (o .key)
     → clauses ≡ setIf (x .rule) (a .clauses) (c .rules) (d .clauses)
-    → arraysOf low high operand modulus negated ranges relations keyword clauses ≡ filled k v x c d o a
-filled-is k v x c d o a e1 e2 e3 e4 e5 e6 e7 e8 e9 = rw (e1, e2, e3, e4, e5, e6, e7, e8, e9)
+    → arraysOf low high columns relations keyword clauses ≡ filled k v x c d o a
+filled-is k v x c d o a e1 e2 e3 e4 e5 e6 = rw (e1, e2, e3, e4, e5, e6)
 
 -- only a phase that has a number next looks at the value
 filled-value : (k : ℕ) (t : Text) (x : Closes) (c d : Counts) (o : Current) (a : Arrays) → filled k (valueAt k t) x c d o a ≡ filled k (capped t) x c d o a
@@ -165,7 +162,7 @@ stands-first s end a at w h k =
 -- a token is some bytes, and ends in the text or with the end behind it
 pub token-ends : (s : Text) (at m : ℕ) → whiteLen (drop at s) ≡ 0 → m ≡ tokenLen (drop at s) → at ≤ length s → (0 < m) × (at + m ≤ length s + 1)
 token-ends s at m hw hm h =
-    let b : Board = record { walk = startWalk; arrays = arraysOf [] [] [] [] [] [] [] [] [] } in
+    let b : Board = record { walk = startWalk; arrays = arraysOf [] [] [] [] [] [] } in
     let z = step b (boardAfter b (tokenAt s [] at m) at) s [] at 0 m refl (sym hw) hm h in
     (z .some, z .within)
 
@@ -175,21 +172,18 @@ pub token-less : (s : Text) (at m next : ℕ) → whiteLen (drop at s) ≡ 0 →
 token-less s at m next hw hm h k = omega (arith, token-ends s at m hw hm h .0, k .onward)
 
 pub takes : {s end : Text} {first a : Arrays} {at : ℕ} {w : Walk} → Stands s end first at w a → (t : Text) (m next : ℕ)
-    {less : ℕ} {low high twice operand modulus ranges relations keyword clauses : List ℕ} {negated : List Bool}
+    {less : ℕ} {low high twice columns relations keyword clauses : List ℕ}
     → t ≡ tokenAt s end at m → m ≡ tokenLen (drop at s) → at ≤ length s → Skipped s (at + m) next → less ≡ w .counts .ranges - 1
     → (g : Step) → g ≡ stepAfter t at (a .keyword) w
     → low ≡ setIf (g .starts) (a .low) (w .counts .ranges) (g .value)
     → high ≡ setIf (g .starts) (a .high) (w .counts .ranges) (g .value)
     → twice ≡ setIf (g .ends) high less (g .value)
-    → operand ≡ setIf (g .closes .relation) (a .operand) (w .counts .relations) (w .current .operand)
-    → modulus ≡ setIf (g .closes .relation) (a .modulus) (w .counts .relations) (w .current .modulus)
-    → negated ≡ setIf (g .closes .relation) (a .negated) (w .counts .relations) (w .current .negated)
-    → ranges ≡ setIf (g .closes .relation) (a .ranges) (w .counts .relations) (w .counts .ranges)
+    → columns ≡ setRowIf (g .closes .relation) (a .columns) (w .counts .relations) (rowFor (w .current) (w .counts .ranges))
     → relations ≡ setIf (g .closes .clause) (a .relations) (w .counts .clauses) (g .walk .counts .relations)
     → keyword ≡ setIf (g .closes .rule) (a .keyword) (w .counts .rules) (w .current .key)
     → clauses ≡ setIf (g .closes .rule) (a .clauses) (w .counts .rules) (g .walk .counts .clauses)
-    → Stands s end first next (g .walk) (arraysOf low twice operand modulus negated ranges relations keyword clauses)
-takes {s} {end} {first} {a} {at} {w} i t m next {less} {low} {high} {twice} {operand} {modulus} {ranges} {relations} {keyword} {clauses} {negated} ht hm h hs hl g hg e1 e2 e3 e4 e5 e6 e7 e8 e9 e10 =
+    → Stands s end first next (g .walk) (arraysOf low twice columns relations keyword clauses)
+takes {s} {end} {first} {a} {at} {w} i t m next {less} {low} {high} {twice} {columns} {relations} {keyword} {clauses} ht hm h hs hl g hg e1 e2 e3 e4 e5 e6 e7 =
     let b : Board = record { walk = w; arrays = a } in
     let k = phaseNumber (w .phase) in
     let c = w .counts in
@@ -199,16 +193,13 @@ takes {s} {end} {first} {a} {at} {w} i t m next {less} {low} {high} {twice} {ope
     (e1 ∙ ap (λ (y : Step). setIf (y .starts) (a .low) (c .ranges) (y .value)) hg)
     (e3 ∙ ap (λ (l : List ℕ). setIf (g .ends) l less (g .value)) e2 ∙ ap (λ (n : ℕ). setIf (g .ends) (setIf (g .starts) (a .high) (c .ranges) (g .value)) n (g .value)) hl
     ∙ ap (λ (y : Step). setIf (y .ends) (setIf (y .starts) (a .high) (c .ranges) (y .value)) (c .ranges - 1) (y .value)) hg)
-    (e4 ∙ ap (λ (y : Step). setIf (y .closes .relation) (a .operand) (c .relations) (o .operand)) hg)
-    (e5 ∙ ap (λ (y : Step). setIf (y .closes .relation) (a .modulus) (c .relations) (o .modulus)) hg)
-    (e6 ∙ ap (λ (y : Step). setIf (y .closes .relation) (a .negated) (c .relations) (o .negated)) hg)
-    (e7 ∙ ap (λ (y : Step). setIf (y .closes .relation) (a .ranges) (c .relations) (c .ranges)) hg)
-    (e8 ∙ ap (λ (y : Step). setIf (y .closes .clause) (a .relations) (c .clauses) (y .walk .counts .relations)) hg)
-    (e9 ∙ ap (λ (y : Step). setIf (y .closes .rule) (a .keyword) (c .rules) (o .key)) hg)
-    (e10 ∙ ap (λ (y : Step). setIf (y .closes .rule) (a .clauses) (c .rules) (y .walk .counts .clauses)) hg) in
+    (e4 ∙ ap (λ (y : Step). setRowIf (y .closes .relation) (a .columns) (c .relations) (rowFor o (c .ranges))) hg)
+    (e5 ∙ ap (λ (y : Step). setIf (y .closes .clause) (a .relations) (c .clauses) (y .walk .counts .relations)) hg)
+    (e6 ∙ ap (λ (y : Step). setIf (y .closes .rule) (a .keyword) (c .rules) (o .key)) hg)
+    (e7 ∙ ap (λ (y : Step). setIf (y .closes .rule) (a .clauses) (c .rules) (y .walk .counts .clauses)) hg) in
     let r = board-is b t at {k = k} {v = valueAt k t} {x = closesAt k t} {q = stepAfter t at (a .keyword) w .walk} refl refl refl refl f in
     let z = onward b _ s end at m next (r ∙ ap (λ (y : Text). boardAfter b y at) ht) (i .none) hm h hs in
-    subst (λ (y : Walk). Stands s end first next y (arraysOf low twice operand modulus negated ranges relations keyword clauses)) (sym (ap (λ (y : Step). y .walk) hg))
+    subst (λ (y : Walk). Stands s end first next y (arraysOf low twice columns relations keyword clauses)) (sym (ap (λ (y : Step). y .walk) hg))
     (record { within = z .within; none = hs .none; rest = z .rest ∙ i .rest })
 
 pub stands-last : {s end : Text} {first a : Arrays} {at : ℕ} {w : Walk} → Stands s end first at w a → length s < at

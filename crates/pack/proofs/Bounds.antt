@@ -94,18 +94,14 @@ held-bounds d c a at b h =
     }
 
 abbrev blank : Arrays
-blank =
-    arraysOf (replicate 2048 0) (replicate 2048 0) (replicate 320 0) (replicate 320 0) (replicate 320 false) (replicate 320 0) (replicate 40 0) (replicate 6 0) (replicate 6 0)
+blank = arraysOf (replicate 2048 0) (replicate 2048 0) (replicate 1280 0) (replicate 40 0) (replicate 6 0) (replicate 6 0)
 
 blank-sized : Sized blank
 blank-sized =
     record {
       low = length-replicate {A = ℕ} 2048 0;
       high = length-replicate {A = ℕ} 2048 0;
-      operand = length-replicate {A = ℕ} 320 0;
-      modulus = length-replicate {A = ℕ} 320 0;
-      negated = length-replicate {A = Bool} 320 false;
-      ranges = length-replicate {A = ℕ} 320 0;
+      columns = length-replicate {A = ℕ} 1280 0;
       relations = length-replicate {A = ℕ} 40 0;
       keyword = length-replicate {A = ℕ} 6 0;
       clauses = length-replicate {A = ℕ} 6 0;

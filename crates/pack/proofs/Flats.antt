@@ -1,20 +1,21 @@
 -- Lists held flat: arrays filled from the front, the ends of lists put one behind the other, and reading them back.
 use mathlib.Core.Path.{_≡_, refl, sym, ap, _∙_}
-use mathlib.Core.Bool.{Bool}
+use mathlib.Core.Bool.{Bool, true, false}
 use mathlib.Core.List.{List, [], _∷_, _++_, map, append-assoc, append-nil}
-use Prim.Native.Nat.{ℕ, zero, suc, _+_, _-_, _≤_, _<_}
+use Prim.Native.Nat.{ℕ, zero, suc, _+_, _*_, _-_, _≤_, _<_}
 use native.Mathlib.Omega.{arith}
 use native.Mathlib.Numerals.{add-one}
-use lib.ListN.{length, take, drop, set, length-append}
-use lib.Seq.{take-suc-set, take-set-lt, length-take-le, set-append-seam, take-at, drop-at}
+use lib.Dec.{eqb}
+use lib.ListN.{length, take, drop, set, length-append, length-set}
+use lib.Seq.{set-out, take-suc-set, take-set-lt, length-take-le, set-append-seam, take-at, drop-at}
 use borrow.Author.Tests.{lt-ltb}
 use Rattle.answer.specs.declared.Keyword.{Keyword}
 use Rattle.rules.specs.Syntax.{Range, Relation, Rule}
-use Rattle.rules.specs.Held.{parts, keywordOf, rangesFrom, relationsFrom, rulesFrom, heldRules}
+use Rattle.rules.specs.Held.{Row, rowsOf, rowEnds, parts, keywordOf, rangesFrom, relationsFrom, rulesFrom, heldRelations, heldRules}
 use Rattle.grammar.specs.Limits.{maxBytes}
 use Rattle.walk.specs.Steps.{moreOf}
 use Rattle.pack.specs.Bounds.{flat}
-use Rattle.pack.specs.Board.{Arrays, packOf}
+use Rattle.pack.specs.Board.{Arrays, setRow, codeOf, packOf}
 
 pub more-is : (n : ℕ) → n < maxBytes → moreOf n ≡ suc n
 more-is n h = rw (lt-ltb n maxBytes h, add-one n)
@@ -94,10 +95,85 @@ ranges-back : (rs : List Range) (j k : List ℕ)
 ranges-back [] j k = (rangesFrom j k, refl)
 ranges-back (r ∷ rs) j k = let ih = ranges-back rs j k in (ih .0, ap (λ l. r ∷ l) (ih .1))
 
-relations-back : (rs : List Relation) (j k : List ℕ) (l : List Bool) (m : List (List Range))
-    → (rest : List Relation) × (relationsFrom (map (λ (r : Relation). r .operand) rs ++ j) (map (λ (r : Relation). r .modulus) rs ++ k) (map (λ (r : Relation). r .negated) rs ++ l) (map (λ (r : Relation). r .ranges) rs ++ m) ≡ rs ++ rest)
-relations-back [] j k l m = (relationsFrom j k l m, refl)
-relations-back (r ∷ rs) j k l m = let ih = relations-back rs j k l m in (ih .0, ap (λ x. r ∷ x) (ih .1))
+-- the row of a relation whose ranges begin at a place, and the rows of relations one behind the other
+abbrev pub rowWith : ℕ → Relation → Row
+rowWith a r = record { operand = r .operand; modulus = r .modulus; comparison = codeOf (r .negated); end = a + length (r .ranges) }
+
+abbrev pub rowsFor : ℕ → List Relation → List Row
+rowsFor a [] = []
+rowsFor a (r ∷ rs) = rowWith a r ∷ rowsFor (a + length (r .ranges)) rs
+
+pub rows-snoc : (a : ℕ) (rs : List Relation) (r : Relation)
+    → rowsFor a (rs ++ (r ∷ [])) ≡ rowsFor a rs ++ (rowWith (a + length (flat (map (λ (r : Relation). r .ranges) rs))) r ∷ [])
+rows-snoc a [] r = ap (λ (n : ℕ). rowWith n r ∷ []) (go a)
+  where
+    go : (a : ℕ) → a ≡ a + 0
+    go a = omega arith
+rows-snoc a (q ∷ rs) r =
+    ap (λ (l : List Row). rowWith a q ∷ l)
+    (rows-snoc (a + length (q .ranges)) rs r
+    ∙ ap (λ (n : ℕ). rowsFor (a + length (q .ranges)) rs ++ (rowWith n r ∷ [])) (go (length-append (q .ranges) (flat (map (λ (r : Relation). r .ranges) rs)))))
+  where
+    go : length (q .ranges ++ flat (map (λ (r : Relation). r .ranges) rs)) ≡ length (q .ranges) + length (flat (map (λ (r : Relation). r .ranges) rs))
+        → a + length (q .ranges) + length (flat (map (λ (r : Relation). r .ranges) rs)) ≡ a + length (q .ranges ++ flat (map (λ (r : Relation). r .ranges) rs))
+    go e = omega arith
+
+ends-rows : (a : ℕ) (rs : List Relation) (ws : List Row) → rowEnds (rowsFor a rs ++ ws) ≡ endsOf a (map (λ (r : Relation). r .ranges) rs) ++ rowEnds ws
+ends-rows a [] ws = refl
+ends-rows a (r ∷ rs) ws = ap (λ (l : List ℕ). (a + length (r .ranges)) ∷ l) (ends-rows (a + length (r .ranges)) rs ws)
+
+code-back : (b : Bool) → eqb (codeOf b) 1 ≡ b
+code-back true = refl
+code-back false = refl
+
+relations-back : (a : ℕ) (rs : List Relation) (ws : List Row) (m : List (List Range))
+    → (rest : List Relation) × (relationsFrom (rowsFor a rs ++ ws) (map (λ (r : Relation). r .ranges) rs ++ m) ≡ rs ++ rest)
+relations-back a [] ws m = (relationsFrom ws m, refl)
+relations-back a (r ∷ rs) ws m = let ih = relations-back (a + length (r .ranges)) rs ws m in (ih .0, rw (code-back (r .negated)) (ap (λ x. r ∷ x) (ih .1)))
+
+-- four numbers further on
+row-places : (P : ℕ → ℕ → ℕ → ℕ → Type 0) (n : ℕ) → P (suc (suc (suc (suc (4 * n))))) (suc (suc (suc (suc (4 * n + 1))))) (suc (suc (suc (suc (4 * n + 2))))) (suc (suc (suc (suc (4 * n + 3)))))
+    → P (4 * suc n) (4 * suc n + 1) (4 * suc n + 2) (4 * suc n + 3)
+row-places P n h =
+    let k : 4 * suc n ≡ suc (suc (suc (suc (4 * n)))) = omega arith in
+    let k1 : 4 * suc n + 1 ≡ suc (suc (suc (suc (4 * n + 1)))) = omega arith in
+    let k2 : 4 * suc n + 2 ≡ suc (suc (suc (suc (4 * n + 2)))) = omega arith in
+    let k3 : 4 * suc n + 3 ≡ suc (suc (suc (suc (4 * n + 3)))) = omega arith in
+    rw (k1, k2, k3, k) h
+
+abbrev at : ℕ → Row → List ℕ → ℕ → ℕ → ℕ → ℕ → Type 0
+at n w a i j k l = rowsOf (set (set (set (set a i (w .operand)) j (w .modulus)) k (w .comparison)) l (w .end)) ≡ set (rowsOf a) n w
+
+-- a row stored among the columns is that row of the rows
+pub rows-set : (n : ℕ) (a : List ℕ) (w : Row) → rowsOf (setRow a n w) ≡ set (rowsOf a) n w
+rows-set zero [] w = refl
+rows-set zero (o ∷ []) w = refl
+rows-set zero (o ∷ m ∷ []) w = refl
+rows-set zero (o ∷ m ∷ c ∷ []) w = refl
+rows-set zero (o ∷ m ∷ c ∷ e ∷ a) w = refl
+rows-set (suc n) [] w = row-places (at (suc n) w []) n refl
+rows-set (suc n) (o ∷ []) w = row-places (at (suc n) w (o ∷ [])) n refl
+rows-set (suc n) (o ∷ m ∷ []) w = row-places (at (suc n) w (o ∷ m ∷ [])) n refl
+rows-set (suc n) (o ∷ m ∷ c ∷ []) w = row-places (at (suc n) w (o ∷ m ∷ c ∷ [])) n refl
+rows-set (suc n) (o ∷ m ∷ c ∷ e ∷ a) w =
+    row-places (at (suc n) w (o ∷ m ∷ c ∷ e ∷ a)) n (ap (λ (l : List Row). record { operand = o; modulus = m; comparison = c; end = e } ∷ l) (rows-set n a w))
+
+pub length-row : (a : List ℕ) (n : ℕ) (w : Row) → length (setRow a n w) ≡ length a
+length-row a n w = simp length-set
+
+-- past the end there is nothing to store into
+pub row-out : (a : List ℕ) (n : ℕ) (w : Row) → length a ≡ 1280 → 320 ≤ n → setRow a n w ≡ a
+row-out a n w l h =
+    rw (set-out a (4 * n) (w .operand) (omega arith), set-out a (4 * n + 1) (w .modulus) (omega arith), set-out a (4 * n + 2) (w .comparison) (omega arith), set-out a (4 * n + 3) (w .end) (omega arith))
+
+pub rows-length : (n : ℕ) (a : List ℕ) → length a ≡ 4 * n → length (rowsOf a) ≡ n
+rows-length zero [] h = refl
+rows-length zero (o ∷ a) h = absurd (omega arith)
+rows-length (suc n) [] h = absurd (omega arith)
+rows-length (suc n) (o ∷ []) h = absurd (omega arith)
+rows-length (suc n) (o ∷ m ∷ []) h = absurd (omega arith)
+rows-length (suc n) (o ∷ m ∷ c ∷ []) h = absurd (omega arith)
+rows-length (suc n) (o ∷ m ∷ c ∷ e ∷ a) h = ap suc (rows-length n a (omega arith))
 
 rules-back : (ks : List ℕ) (rs : List Rule) (m : List (List (List Relation))) → map keywordOf ks ≡ map (λ (r : Rule). r .keyword) rs
     → rulesFrom ks (map (λ (r : Rule). r .clauses) rs ++ m) ≡ rs
@@ -123,11 +199,8 @@ pub record Ranges (low high : List ℕ) (n : ℕ) (rs : List Range) : Type 0 whe
   pub highs : take n high ≡ map (λ (r : Range). r .high) rs
   pub count : n ≡ length rs
 
-pub record Relations (operand modulus : List ℕ) (negated : List Bool) (ends : List ℕ) (n : ℕ) (rs : List Relation) : Type 0 where
-  pub operands : take n operand ≡ map (λ (r : Relation). r .operand) rs
-  pub moduli : take n modulus ≡ map (λ (r : Relation). r .modulus) rs
-  pub signs : take n negated ≡ map (λ (r : Relation). r .negated) rs
-  pub ends-at : take n ends ≡ endsOf 0 (map (λ (r : Relation). r .ranges) rs)
+pub record Relations (columns : List ℕ) (n : ℕ) (rs : List Relation) : Type 0 where
+  pub rows : take n (rowsOf columns) ≡ rowsFor 0 rs
   pub count : n ≡ length rs
 
 pub record Clauses (ends : List ℕ) (n : ℕ) (cs : List (List Relation)) : Type 0 where
@@ -141,28 +214,26 @@ pub record Rules (keyword ends : List ℕ) (n : ℕ) (ks : List ℕ) (rs : List 
 
 -- READ BACK: arrays that hold the ranges, relations and clauses of rules hold the rules
 pub held-back : (a : Arrays) (n m k r : ℕ) (ks : List ℕ) (rules : List Rule) (cs : List (List Relation)) (rels : List Relation) (rs : List Range)
-    → Ranges (a .low) (a .high) n rs → Relations (a .operand) (a .modulus) (a .negated) (a .ranges) m rels → Clauses (a .relations) k cs
+    → Ranges (a .low) (a .high) n rs → Relations (a .columns) m rels → Clauses (a .relations) k cs
     → Rules (a .keyword) (a .clauses) r ks rules
     → rs ≡ flat (map (λ (r : Relation). r .ranges) rels) → rels ≡ flat cs → cs ≡ flat (map (λ (r : Rule). r .clauses) rules)
     → map keywordOf ks ≡ map (λ (r : Rule). r .keyword) rules → heldRules (packOf a r) ≡ rules
 held-back a n m k r ks rules cs rels rs h1 h2 h3 h4 e1 e2 e3 e4 =
     let g = ranges-back rs (drop n (a .low)) (drop n (a .high)) in
     let g1 : rangesFrom (a .low) (a .high) ≡ rs ++ g .0 = ap (λ l. rangesFrom l (a .high)) (front (a .low) n _ (h1 .lows)) ∙ ap (rangesFrom (map (λ (r : Range). r .low) rs ++ drop n (a .low))) (front (a .high) n _ (h1 .highs)) ∙ g .1 in
-    let p = parts-are (map (λ (r : Relation). r .ranges) rels) (drop m (a .ranges)) [] (g .0) in
-    let p1 : parts 0 (a .ranges) (rangesFrom (a .low) (a .high)) ≡ map (λ (r : Relation). r .ranges) rels ++ p .0 =
-    ap (parts 0 (a .ranges)) (g1 ∙ ap (λ l. l ++ g .0) e1) ∙ ap (λ l. parts 0 l (flat (map (λ (r : Relation). r .ranges) rels) ++ g .0)) (front (a .ranges) m _ (h2 .ends-at)) ∙ p .1 in
-    let q = relations-back rels (drop m (a .operand)) (drop m (a .modulus)) (drop m (a .negated)) (p .0) in
-    let q1 : relationsFrom (a .operand) (a .modulus) (a .negated) (parts 0 (a .ranges) (rangesFrom (a .low) (a .high))) ≡ rels ++ q .0 =
-    ap (λ l. relationsFrom l (a .modulus) (a .negated) (parts 0 (a .ranges) (rangesFrom (a .low) (a .high)))) (front (a .operand) m _ (h2 .operands))
-    ∙ ap (λ l. relationsFrom (map (λ (r : Relation). r .operand) rels ++ drop m (a .operand)) l (a .negated) (parts 0 (a .ranges) (rangesFrom (a .low) (a .high)))) (front (a .modulus) m _ (h2 .moduli))
-    ∙ ap (λ l. relationsFrom (map (λ (r : Relation). r .operand) rels ++ drop m (a .operand)) (map (λ (r : Relation). r .modulus) rels ++ drop m (a .modulus)) l (parts 0 (a .ranges) (rangesFrom (a .low) (a .high)))) (front (a .negated) m _ (h2 .signs))
-    ∙ ap (relationsFrom (map (λ (r : Relation). r .operand) rels ++ drop m (a .operand)) (map (λ (r : Relation). r .modulus) rels ++ drop m (a .modulus)) (map (λ (r : Relation). r .negated) rels ++ drop m (a .negated))) p1
-    ∙ q .1 in
+    let ws = drop m (rowsOf (a .columns)) in
+    let w : rowsOf (a .columns) ≡ rowsFor 0 rels ++ ws = front (rowsOf (a .columns)) m _ (h2 .rows) in
+    let p = parts-are (map (λ (r : Relation). r .ranges) rels) (rowEnds ws) [] (g .0) in
+    let p1 : parts 0 (rowEnds (rowsOf (a .columns))) (rangesFrom (a .low) (a .high)) ≡ map (λ (r : Relation). r .ranges) rels ++ p .0 =
+    ap (parts 0 (rowEnds (rowsOf (a .columns)))) (g1 ∙ ap (λ l. l ++ g .0) e1)
+    ∙ ap (λ l. parts 0 l (flat (map (λ (r : Relation). r .ranges) rels) ++ g .0)) (ap rowEnds w ∙ ends-rows 0 rels ws) ∙ p .1 in
+    let q = relations-back 0 rels ws (p .0) in
+    let q1 : heldRelations (packOf a r) ≡ rels ++ q .0 = ap (relationsFrom (rowsOf (a .columns))) p1 ∙ ap (λ l. relationsFrom l (map (λ (r : Relation). r .ranges) rels ++ p .0)) w ∙ q .1 in
     let c = parts-are cs (drop k (a .relations)) [] (q .0) in
-    let c1 : parts 0 (a .relations) (relationsFrom (a .operand) (a .modulus) (a .negated) (parts 0 (a .ranges) (rangesFrom (a .low) (a .high)))) ≡ cs ++ c .0 =
+    let c1 : parts 0 (a .relations) (heldRelations (packOf a r)) ≡ cs ++ c .0 =
     ap (parts 0 (a .relations)) (q1 ∙ ap (λ l. l ++ q .0) e2) ∙ ap (λ l. parts 0 l (flat cs ++ q .0)) (front (a .relations) k _ (h3 .ends-at)) ∙ c .1 in
     let d = parts-are (map (λ (r : Rule). r .clauses) rules) (drop r (a .clauses)) [] (c .0) in
-    let d1 : parts 0 (a .clauses) (parts 0 (a .relations) (relationsFrom (a .operand) (a .modulus) (a .negated) (parts 0 (a .ranges) (rangesFrom (a .low) (a .high))))) ≡ map (λ (r : Rule). r .clauses) rules ++ d .0 =
+    let d1 : parts 0 (a .clauses) (parts 0 (a .relations) (heldRelations (packOf a r))) ≡ map (λ (r : Rule). r .clauses) rules ++ d .0 =
     ap (parts 0 (a .clauses)) (c1 ∙ ap (λ l. l ++ c .0) e3) ∙ ap (λ l. parts 0 l (flat (map (λ (r : Rule). r .clauses) rules) ++ c .0)) (front (a .clauses) r _ (h4 .ends-at)) ∙ d .1 in
-    ap (λ l. rulesFrom l (parts 0 (a .clauses) (parts 0 (a .relations) (relationsFrom (a .operand) (a .modulus) (a .negated) (parts 0 (a .ranges) (rangesFrom (a .low) (a .high))))))) (h4 .keys)
+    ap (λ l. rulesFrom l (parts 0 (a .clauses) (parts 0 (a .relations) (heldRelations (packOf a r))))) (h4 .keys)
     ∙ ap (rulesFrom ks) d1 ∙ rules-back ks rules (d .0) e4

@@ -2,7 +2,7 @@
 use mathlib.Core.Path.{_≡_, refl, sym, ap, _∙_, subst}
 use mathlib.Core.Bool.{Bool, true, false}
 use mathlib.Core.List.{List, [], _∷_, _++_, map, append-assoc, append-nil}
-use Prim.Native.Nat.{ℕ, suc, _+_, _*_, _-_, _≤_, _<_}
+use Prim.Native.Nat.{ℕ, suc, _+_, _*_, _-_, _≤_, _<_, min}
 use native.Mathlib.Omega.{arith}
 use lib.ListN.{length, getD, set, length-set, length-append}
 use Rattle.decimal.specs.Digits.{value}
@@ -23,9 +23,9 @@ use Rattle.walk.specs.Steps.{keywordNumber, held, moreOf, countsAfter}
 use Rattle.walk.specs.declared.Closes.{Closes}
 use Rattle.walk.specs.declared.Counts.{Counts}
 use Rattle.walk.specs.declared.Current.{Current}
-use Rattle.pack.specs.Board.{Arrays, Sized, filled}
+use Rattle.pack.specs.Board.{Arrays, Sized, setRow, codeOf, rowFor, filled}
 use Rattle.pack.specs.Bounds.{flat}
-use Rattle.pack.proofs.Flats.{more-is, flat-snoc, map-snoc, Ranges, Relations, Clauses, Rules}
+use Rattle.pack.proofs.Flats.{more-is, flat-snoc, map-snoc, length-row, Ranges, Relations, Clauses, Rules}
 use Rattle.pack.proofs.Levels.{ranges-more, ranges-last, relations-more, clauses-more, rules-more}
 use Rattle.pack.proofs.Tally.{Tally, tally-bare, tally-named, tally-room, tally-conditions, keyword-number, number-other}
 
@@ -116,7 +116,7 @@ C-bare d k = closed-snoc d (Bare k) ∙ append-nil (closedClauses d)
 
 pub record Kept (d : List RuleTree) (C : List (List Relation)) (R : List Relation) (G : List Range) (c : Counts) (a : Arrays) : Type 0 where
   pub ranges : Ranges (a .low) (a .high) (c .ranges) G
-  pub relations : Relations (a .operand) (a .modulus) (a .negated) (a .ranges) (c .relations) R
+  pub relations : Relations (a .columns) (c .relations) R
   pub clauses : Clauses (a .relations) (c .clauses) C
   pub rules : Rules (a .keyword) (a .clauses) (c .rules) (numbers d) (Ds d)
 
@@ -209,22 +209,23 @@ keyed-more d r e h =
 
 -- ---- a relation closed: the lists behind `and`, `or` and `;`
 
-module _ (d : List RuleTree) (f : Front) (h : HeadTree) (vs : List RangeTree) (v : RangeTree) (c : Counts) (o : Current) (a : Arrays) (at : ℕ) (w : FrontIs d f (vs ++ (v ∷ [])) c o a at) (s : Small f) (g : HeadIs h o) where
+module _ (d : List RuleTree) (f : Front) (h : HeadTree) (vs : List RangeTree) (v : RangeTree) (c : Counts) (o : Current) (a : Arrays) (at : ℕ) (w : FrontIs d f (vs ++ (v ∷ [])) c o a at) (s : Small f) (g : HeadIs h o) (near : at ≤ maxBytes) where
   rel : RelationTree
   rel = Rel h vs v
 
   relation : Relation
   relation = record { operand = o .operand; modulus = o .modulus; negated = o .negated; ranges = map rangeOf (vs ++ (v ∷ [])) }
 
-  relations-closed : Relations (set (a .operand) (c .relations) (o .operand)) (set (a .modulus) (c .relations) (o .modulus)) (set (a .negated) (c .relations) (o .negated)) (set (a .ranges) (c .relations) (c .ranges)) (moreOf (c .relations)) (Rs d f ++ (relation ∷ []))
+  relations-closed : Relations (setRow (a .columns) (c .relations) (rowFor o (c .ranges))) (moreOf (c .relations)) (Rs d f ++ (relation ∷ []))
   unfolding relation
   relations-closed =
       let b = w .base in
       let z = b .sized in
       let x = flat (map (λ (r : Relation). r .ranges) (Rs d f)) in
-      relations-more (a .operand) (a .modulus) (a .negated) (a .ranges) (c .relations) (c .ranges) (Rs d f) relation (b .kept .relations) (z .operand) (z .modulus) (z .negated) (z .ranges)
+      let e : min (c .ranges) 4294967295 ≡ length x + length (map rangeOf (vs ++ (v ∷ []))) = omega (arith, b .room, b .kept .ranges .count, length-append x (map rangeOf (vs ++ (v ∷ [])))) in
+      relations-more (a .columns) (c .relations) (rowFor o (c .ranges)) (Rs d f) relation (b .kept .relations) (z .columns)
       (omega (arith, b .kept .relations .count, relations-room d f (vs ++ (v ∷ [])) c o a at w s))
-      (b .kept .ranges .count ∙ length-append x (map rangeOf (vs ++ (v ∷ []))))
+      (ap (λ (n : ℕ). record { operand = o .operand; modulus = o .modulus; comparison = codeOf (o .negated); end = n }) e)
 
   R-one : relationOf (Rel h vs v) ≡ relation
   unfolding relation
@@ -252,7 +253,7 @@ module _ (d : List RuleTree) (f : Front) (h : HeadTree) (vs : List RangeTree) (v
             record {
               ranges = subst (λ (x : List Range). Ranges (a .low) (a .high) (c .ranges) x) (sym (G-same (Rs d andFront) e)) (b .kept .ranges);
               relations =
-                  subst (λ (x : List Relation). Relations (set (a .operand) (c .relations) (o .operand)) (set (a .modulus) (c .relations) (o .modulus)) (set (a .negated) (c .relations) (o .negated)) (set (a .ranges) (c .relations) (c .ranges)) (moreOf (c .relations)) x) (sym e) relations-closed;
+                  subst (λ (x : List Relation). Relations (setRow (a .columns) (c .relations) (rowFor o (c .ranges))) (moreOf (c .relations)) x) (sym e) relations-closed;
               clauses = b .kept .clauses;
               rules = b .kept .rules;
             };
@@ -260,10 +261,7 @@ module _ (d : List RuleTree) (f : Front) (h : HeadTree) (vs : List RangeTree) (v
             record {
               low = z .low;
               high = z .high;
-              operand = length-set (a .operand) (c .relations) (o .operand) ∙ z .operand;
-              modulus = length-set (a .modulus) (c .relations) (o .modulus) ∙ z .modulus;
-              negated = length-set (a .negated) (c .relations) (o .negated) ∙ z .negated;
-              ranges = length-set (a .ranges) (c .relations) (c .ranges) ∙ z .ranges;
+              columns = length-row (a .columns) (c .relations) (rowFor o (c .ranges)) ∙ z .columns;
               relations = z .relations;
               keyword = z .keyword;
               clauses = z .clauses;
@@ -320,7 +318,7 @@ module _ (d : List RuleTree) (f : Front) (h : HeadTree) (vs : List RangeTree) (v
             record {
               ranges = subst (λ (x : List Range). Ranges (a .low) (a .high) (c .ranges) x) (sym (G-same (Rs d orFront) e)) (b .kept .ranges);
               relations =
-                  subst (λ (x : List Relation). Relations (set (a .operand) (c .relations) (o .operand)) (set (a .modulus) (c .relations) (o .modulus)) (set (a .negated) (c .relations) (o .negated)) (set (a .ranges) (c .relations) (c .ranges)) (moreOf (c .relations)) x) (sym e) relations-closed;
+                  subst (λ (x : List Relation). Relations (setRow (a .columns) (c .relations) (rowFor o (c .ranges))) (moreOf (c .relations)) x) (sym e) relations-closed;
               clauses = subst (λ (x : List (List Relation)). Clauses (set (a .relations) (c .clauses) (moreOf (c .relations))) (moreOf (c .clauses)) x) (sym j) clauses-closed;
               rules = b .kept .rules;
             };
@@ -328,10 +326,7 @@ module _ (d : List RuleTree) (f : Front) (h : HeadTree) (vs : List RangeTree) (v
             record {
               low = z .low;
               high = z .high;
-              operand = length-set (a .operand) (c .relations) (o .operand) ∙ z .operand;
-              modulus = length-set (a .modulus) (c .relations) (o .modulus) ∙ z .modulus;
-              negated = length-set (a .negated) (c .relations) (o .negated) ∙ z .negated;
-              ranges = length-set (a .ranges) (c .relations) (c .ranges) ∙ z .ranges;
+              columns = length-row (a .columns) (c .relations) (rowFor o (c .ranges)) ∙ z .columns;
               relations = length-set (a .relations) (c .clauses) (moreOf (c .relations)) ∙ z .relations;
               keyword = z .keyword;
               clauses = z .clauses;
@@ -382,7 +377,7 @@ module _ (d : List RuleTree) (f : Front) (h : HeadTree) (vs : List RangeTree) (v
             record {
               ranges = subst (λ (x : List Range). Ranges (a .low) (a .high) (c .ranges) x) (sym (G-same (Rs more none) e)) (b .kept .ranges);
               relations =
-                  subst (λ (x : List Relation). Relations (set (a .operand) (c .relations) (o .operand)) (set (a .modulus) (c .relations) (o .modulus)) (set (a .negated) (c .relations) (o .negated)) (set (a .ranges) (c .relations) (c .ranges)) (moreOf (c .relations)) x) (sym e) relations-closed;
+                  subst (λ (x : List Relation). Relations (setRow (a .columns) (c .relations) (rowFor o (c .ranges))) (moreOf (c .relations)) x) (sym e) relations-closed;
               clauses = subst (λ (x : List (List Relation)). Clauses (set (a .relations) (c .clauses) (moreOf (c .relations))) (moreOf (c .clauses)) x) (sym j) clauses-closed;
               rules = rules-closed;
             };
@@ -390,10 +385,7 @@ module _ (d : List RuleTree) (f : Front) (h : HeadTree) (vs : List RangeTree) (v
             record {
               low = z .low;
               high = z .high;
-              operand = length-set (a .operand) (c .relations) (o .operand) ∙ z .operand;
-              modulus = length-set (a .modulus) (c .relations) (o .modulus) ∙ z .modulus;
-              negated = length-set (a .negated) (c .relations) (o .negated) ∙ z .negated;
-              ranges = length-set (a .ranges) (c .relations) (c .ranges) ∙ z .ranges;
+              columns = length-row (a .columns) (c .relations) (rowFor o (c .ranges)) ∙ z .columns;
               relations = length-set (a .relations) (c .clauses) (moreOf (c .relations)) ∙ z .relations;
               keyword = length-set (a .keyword) (c .rules) (o .key) ∙ z .keyword;
               clauses = length-set (a .clauses) (c .rules) (moreOf (c .clauses)) ∙ z .clauses;
@@ -434,7 +426,7 @@ close-bare d k c o a at n p b w l =
       kept =
           record {
             ranges = subst (λ (x : List Range). Ranges (a .low) (a .high) (c .ranges) x) (sym g) (b .kept .ranges);
-            relations = subst (λ (x : List Relation). Relations (a .operand) (a .modulus) (a .negated) (a .ranges) (c .relations) x) (sym e) (b .kept .relations);
+            relations = subst (λ (x : List Relation). Relations (a .columns) (c .relations) x) (sym e) (b .kept .relations);
             clauses = subst (λ (x : List (List Relation)). Clauses (a .relations) (c .clauses) x) (sym j) (b .kept .clauses);
             rules =
                 subst (λ (x : List ℕ). Rules (set (a .keyword) (c .rules) (o .key)) (set (a .clauses) (c .rules) (c .clauses)) (moreOf (c .rules)) x (Ds more)) x1
@@ -444,10 +436,7 @@ close-bare d k c o a at n p b w l =
           record {
             low = z .low;
             high = z .high;
-            operand = z .operand;
-            modulus = z .modulus;
-            negated = z .negated;
-            ranges = z .ranges;
+            columns = z .columns;
             relations = z .relations;
             keyword = length-set (a .keyword) (c .rules) (o .key) ∙ z .keyword;
             clauses = length-set (a .clauses) (c .rules) (c .clauses) ∙ z .clauses;
@@ -488,10 +477,7 @@ add-value d f vs t c o a at n p b e l m h =
           record {
             low = length-set (a .low) (c .ranges) n ∙ z .low;
             high = length-set (a .high) (c .ranges) n ∙ z .high;
-            operand = z .operand;
-            modulus = z .modulus;
-            negated = z .negated;
-            ranges = z .ranges;
+            columns = z .columns;
             relations = z .relations;
             keyword = z .keyword;
             clauses = z .clauses;
@@ -528,10 +514,7 @@ add-upper d f vs x t c o a at n p b e l m =
           record {
             low = z .low;
             high = length-set (a .high) (c .ranges - 1) n ∙ z .high;
-            operand = z .operand;
-            modulus = z .modulus;
-            negated = z .negated;
-            ranges = z .ranges;
+            columns = z .columns;
             relations = z .relations;
             keyword = z .keyword;
             clauses = z .clauses;

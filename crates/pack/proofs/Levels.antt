@@ -1,15 +1,16 @@
 -- What a token adds to the arrays: a range, a range's upper end, a relation, a clause, a rule.
 use mathlib.Core.Path.{_≡_, sym, ap, _∙_}
-use mathlib.Core.Bool.{Bool}
 use mathlib.Core.List.{List, [], _∷_, _++_, map}
 use Prim.Native.Nat.{ℕ, _+_, _-_, _≤_, _<_}
 use native.Mathlib.Omega.{arith}
-use lib.ListN.{length, set, length-append}
+use lib.ListN.{length, take, set, length-append}
 use Rattle.rules.specs.Syntax.{Range, Relation, Rule}
+use Rattle.rules.specs.Held.{Row, rowsOf}
 use Rattle.grammar.specs.Limits.{maxBytes}
 use Rattle.walk.specs.Steps.{moreOf}
 use Rattle.pack.specs.Bounds.{flat}
-use Rattle.pack.proofs.Flats.{more-is, map-snoc, endsOf, ends-snoc, fill-more, fill-last, Ranges, Relations, Clauses, Rules}
+use Rattle.pack.specs.Board.{setRow}
+use Rattle.pack.proofs.Flats.{more-is, map-snoc, endsOf, ends-snoc, fill-more, fill-last, rowWith, rowsFor, rows-snoc, rows-set, rows-length, Ranges, Relations, Clauses, Rules}
 
 one-more : {A : Type 0} (n : ℕ) (xs : List A) (x : A) → n < maxBytes → n ≡ length xs → moreOf n ≡ length (xs ++ (x ∷ []))
 one-more n xs x h e = more-is n h ∙ omega (arith, length-append xs (x ∷ []))
@@ -34,19 +35,15 @@ ranges-last low high n a v rs h l =
       count = h .count ∙ length-append rs (record { low = a; high = a } ∷ []) ∙ sym (length-append rs (record { low = a; high = v } ∷ []));
     }
 
-pub relations-more : (operand modulus : List ℕ) (negated : List Bool) (ends : List ℕ) (n e : ℕ) (rs : List Relation) (r : Relation)
-    → Relations operand modulus negated ends n rs → length operand ≡ 320 → length modulus ≡ 320 → length negated ≡ 320 → length ends ≡ 320 → n < 320
-    → e ≡ length (flat (map (λ (r : Relation). r .ranges) rs)) + length (r .ranges)
-    → Relations (set operand n (r .operand)) (set modulus n (r .modulus)) (set negated n (r .negated)) (set ends n e) (moreOf n) (rs ++ (r ∷ []))
-relations-more operand modulus negated ends n e rs r h l1 l2 l3 l4 k q =
-    let z : e ≡ 0 + length (flat (map (λ (r : Relation). r .ranges) rs)) + length (r .ranges) = omega arith in
+pub relations-more : (columns : List ℕ) (n : ℕ) (w : Row) (rs : List Relation) (r : Relation) → Relations columns n rs → length columns ≡ 1280 → n < 320
+    → w ≡ rowWith (length (flat (map (λ (r : Relation). r .ranges) rs))) r → Relations (setRow columns n w) (moreOf n) (rs ++ (r ∷ []))
+relations-more columns n w rs r h l k q =
+    let z : 0 + length (flat (map (λ (r : Relation). r .ranges) rs)) ≡ length (flat (map (λ (r : Relation). r .ranges) rs)) = omega arith in
+    let e : length (rowsOf columns) ≡ 320 = rows-length 320 columns (omega arith) in
     record {
-      operands = fill-more operand n (r .operand) _ (h .operands) (omega arith) (omega arith) ∙ sym (map-snoc (λ (r : Relation). r .operand) rs r);
-      moduli = fill-more modulus n (r .modulus) _ (h .moduli) (omega arith) (omega arith) ∙ sym (map-snoc (λ (r : Relation). r .modulus) rs r);
-      signs = fill-more negated n (r .negated) _ (h .signs) (omega arith) (omega arith) ∙ sym (map-snoc (λ (r : Relation). r .negated) rs r);
-      ends-at =
-          fill-more ends n e _ (h .ends-at) (omega arith) (omega arith) ∙ ap (λ x. endsOf 0 (map (λ (r : Relation). r .ranges) rs) ++ (x ∷ [])) z
-          ∙ sym (ends-snoc 0 (map (λ (r : Relation). r .ranges) rs) (r .ranges)) ∙ ap (endsOf 0) (sym (map-snoc (λ (r : Relation). r .ranges) rs r));
+      rows =
+          ap (take (moreOf n)) (rows-set n columns w) ∙ fill-more (rowsOf columns) n w _ (h .rows) (omega arith) (omega arith)
+          ∙ ap (λ (x : Row). rowsFor 0 rs ++ (x ∷ [])) (q ∙ ap (λ (m : ℕ). rowWith m r) (sym z)) ∙ sym (rows-snoc 0 rs r);
       count = one-more n rs r (omega arith) (h .count);
     }
 

@@ -149,13 +149,13 @@ module _ (d : List RuleTree) (c : Counts) (o : Current) (a : Arrays) (at p : ℕ
   -- a relation is whole
   module _ (f : Front) (h : HeadTree) (vs : List RangeTree) (v : RangeTree) (w : FrontIs d f (vs ++ (v ∷ [])) c o a at) (z : Small f) (g : HeadIs h o) (r : 2 * c .ranges + 1 ≤ at) where
     by-and : Then 8 and (here (WantsOperand (record { name = f .name; clauses = f .clauses; relations = f .relations ++ (Rel h vs v ∷ []) })))
-    by-and = record { base = close-and d f h vs v c o a at w z g (capped and) p l; keyed = record { key = w .keyed .key; known = w .keyed .known; new = w .keyed .new }; named = w .named }
+    by-and = record { base = close-and d f h vs v c o a at w z g (omega arith) (capped and) p l; keyed = record { key = w .keyed .key; known = w .keyed .known; new = w .keyed .new }; named = w .named }
 
     by-or : Then 8 or (here (WantsOperand (record { name = f .name; clauses = f .clauses ++ (Joined (f .relations) (Rel h vs v) ∷ []); relations = [] })))
-    by-or = record { base = close-or d f h vs v c o a at w z g (capped or) p l; keyed = record { key = w .keyed .key; known = w .keyed .known; new = w .keyed .new }; named = w .named }
+    by-or = record { base = close-or d f h vs v c o a at w z g (omega arith) (capped or) p l; keyed = record { key = w .keyed .key; known = w .keyed .known; new = w .keyed .new }; named = w .named }
 
     by-semi : Then 8 semi (record { rules = d ++ (Named (f .name) (f .clauses) (Joined (f .relations) (Rel h vs v)) ∷ []); state = WantsName })
-    by-semi = close-semi d f h vs v c o a at w z g (capped semi) p l
+    by-semi = close-semi d f h vs v c o a at w z g (omega arith) (capped semi) p l
 
     by-comma : Then 8 comma (here (WantsValue f h (vs ++ (v ∷ []))))
     by-comma = (record { base = later p l (w .base); keyed = record { key = w .keyed .key; known = w .keyed .known; new = w .keyed .new }; named = w .named }, z, g, omega (arith, r))

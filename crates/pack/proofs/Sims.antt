@@ -244,7 +244,7 @@ start a z =
             kept =
                 record {
                   ranges = record { lows = refl; highs = refl; count = refl };
-                  relations = record { operands = refl; moduli = refl; signs = refl; ends-at = refl; count = refl };
+                  relations = record { rows = refl; count = refl };
                   clauses = record { ends-at = refl; count = refl };
                   rules = record { keys = refl; ends-at = refl; count = refl };
                 };
@@ -352,8 +352,8 @@ pub told : (a e : Arrays) (u : Walk) (s : Text) {r : Returned} → Sized a → r
 told a e u s z q h = subst (λ (r : Returned). ReadAs (readPack s) r (packOf e (countIn r))) (sym h) (judged-as a e u s z q)
 
 -- the arrays with so many rules as are told hold the answer's
-pub rules-left : {a : PackAnswer} {r : Returned} {low high operand modulus ranges relations keyword clauses : List ℕ} {negated : List Bool}
-    → ReadAs a r (lent low high operand modulus negated ranges relations keyword clauses (countIn r)) → (n : ℕ) → r ≡ Counted n
-    → heldRules (lent low high operand modulus negated ranges relations keyword clauses n) ≡ rulesOf a
-rules-left {a} {r} {low} {high} {operand} {modulus} {ranges} {relations} {keyword} {clauses} {negated} h n e =
-    ap (λ (k : ℕ). heldRules (lent low high operand modulus negated ranges relations keyword clauses k)) (sym (ap countIn e)) ∙ h .rules
+pub rules-left : {a : PackAnswer} {r : Returned} {low high columns relations keyword clauses : List ℕ}
+    → ReadAs a r (lent low high columns relations keyword clauses (countIn r)) → (n : ℕ) → r ≡ Counted n
+    → heldRules (lent low high columns relations keyword clauses n) ≡ rulesOf a
+rules-left {a} {r} {low} {high} {columns} {relations} {keyword} {clauses} h n e =
+    ap (λ (k : ℕ). heldRules (lent low high columns relations keyword clauses k)) (sym (ap countIn e)) ∙ h .rules

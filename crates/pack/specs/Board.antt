@@ -3,13 +3,13 @@
 use mathlib.Core.Path.{_≡_}
 use mathlib.Core.Bool.{Bool, false}
 use mathlib.Core.List.{List, [], _∷_}
-use Prim.Native.Nat.{ℕ, _-_}
+use Prim.Native.Nat.{ℕ, _+_, _*_, _-_, min}
 use lib.Dec.{eqb, ltb}
 use lib.ListN.{length, take, drop, set}
 use Rattle.decimal.specs.Choice.{if_then_else_}
 use Rattle.answer.specs.declared.PackRow.the-variants.{NotAPack}
 use Rattle.answer.specs.declared.Refusal.the-variants.{PackTooLong, Pack as OfPack}
-use Rattle.rules.specs.Held.{Pack, lent}
+use Rattle.rules.specs.Held.{Pack, Row, lent}
 use Rattle.token.specs.Token.{Token, tokens}
 use Rattle.grammar.specs.Limits.{maxBytes}
 use Rattle.grammar.specs.Grammar.{Text, semi}
@@ -29,23 +29,17 @@ use Rattle.pack.specs.declared.Read.the-variants.{Rules, Refused}
 pub record Arrays : Type 0 where
   pub low : List ℕ
   pub high : List ℕ
-  pub operand : List ℕ
-  pub modulus : List ℕ
-  pub negated : List Bool
-  pub ranges : List ℕ
+  pub columns : List ℕ
   pub relations : List ℕ
   pub keyword : List ℕ
   pub clauses : List ℕ
 
-abbrev pub arraysOf : List ℕ → List ℕ → List ℕ → List ℕ → List Bool → List ℕ → List ℕ → List ℕ → List ℕ → Arrays
-arraysOf low high operand modulus negated ranges relations keyword clauses =
+abbrev pub arraysOf : List ℕ → List ℕ → List ℕ → List ℕ → List ℕ → List ℕ → Arrays
+arraysOf low high columns relations keyword clauses =
     record {
       low = low;
       high = high;
-      operand = operand;
-      modulus = modulus;
-      negated = negated;
-      ranges = ranges;
+      columns = columns;
       relations = relations;
       keyword = keyword;
       clauses = clauses;
@@ -54,16 +48,27 @@ arraysOf low high operand modulus negated ranges relations keyword clauses =
 abbrev pub setIf : {A : Type 0} → Bool → List A → ℕ → A → List A
 setIf b a n v = if b then set a n v else a
 
+-- the row n, four numbers one behind the other
+abbrev pub setRow : List ℕ → ℕ → Row → List ℕ
+setRow a n w = set (set (set (set a (4 * n) (w .operand)) (4 * n + 1) (w .modulus)) (4 * n + 2) (w .comparison)) (4 * n + 3) (w .end)
+
+abbrev pub setRowIf : Bool → List ℕ → ℕ → Row → List ℕ
+setRowIf b a n w = if b then setRow a n w else a
+
+abbrev pub codeOf : Bool → ℕ
+codeOf negated = if negated then 1 else 0
+
+-- the row of the relation that is being read, whose ranges end at this place
+abbrev pub rowFor : Current → ℕ → Row
+rowFor o end = record { operand = o .operand; modulus = o .modulus; comparison = codeOf (o .negated); end = min end 4294967295 }
+
 -- in a phase, for a token that closes so much and has this value; c and d: the counts before and behind the token
 abbrev pub filled : ℕ → ℕ → Closes → Counts → Counts → Current → Arrays → Arrays
 filled k v x c d o a =
     record {
       low = setIf (eqb k 7) (a .low) (c .ranges) v;
       high = setIf (eqb k 9) (setIf (eqb k 7) (a .high) (c .ranges) v) (c .ranges - 1) v;
-      operand = setIf (x .relation) (a .operand) (c .relations) (o .operand);
-      modulus = setIf (x .relation) (a .modulus) (c .relations) (o .modulus);
-      negated = setIf (x .relation) (a .negated) (c .relations) (o .negated);
-      ranges = setIf (x .relation) (a .ranges) (c .relations) (c .ranges);
+      columns = setRowIf (x .relation) (a .columns) (c .relations) (rowFor o (c .ranges));
       relations = setIf (x .clause) (a .relations) (c .clauses) (d .relations);
       keyword = setIf (x .rule) (a .keyword) (c .rules) (o .key);
       clauses = setIf (x .rule) (a .clauses) (c .rules) (d .clauses);
@@ -73,9 +78,9 @@ pub record Board : Type 0 where
   pub walk : Walk
   pub arrays : Arrays
 
-abbrev pub boardOf : Walk → List ℕ → List ℕ → List ℕ → List ℕ → List Bool → List ℕ → List ℕ → List ℕ → List ℕ → Board
-boardOf w low high operand modulus negated ranges relations keyword clauses =
-    record { walk = w; arrays = arraysOf low high operand modulus negated ranges relations keyword clauses }
+abbrev pub boardOf : Walk → List ℕ → List ℕ → List ℕ → List ℕ → List ℕ → List ℕ → Board
+boardOf w low high columns relations keyword clauses =
+    record { walk = w; arrays = arraysOf low high columns relations keyword clauses }
 
 abbrev pub startWalk : Walk
 startWalk =
@@ -127,10 +132,7 @@ judgedAll n w = if ltb maxBytes n then Refused PackTooLong else judged w
 pub record Sized (a : Arrays) : Type 0 where
   pub low : length (a .low) ≡ 2048
   pub high : length (a .high) ≡ 2048
-  pub operand : length (a .operand) ≡ 320
-  pub modulus : length (a .modulus) ≡ 320
-  pub negated : length (a .negated) ≡ 320
-  pub ranges : length (a .ranges) ≡ 320
+  pub columns : length (a .columns) ≡ 1280
   pub relations : length (a .relations) ≡ 40
   pub keyword : length (a .keyword) ≡ 6
   pub clauses : length (a .clauses) ≡ 6
@@ -141,4 +143,4 @@ lastBoard a s = boardAfter (boards (record { walk = startWalk; arrays = a }) (to
 
 -- the pack of n rules in these arrays
 abbrev pub packOf : Arrays → ℕ → Pack
-packOf a n = lent (a .low) (a .high) (a .operand) (a .modulus) (a .negated) (a .ranges) (a .relations) (a .keyword) (a .clauses) n
+packOf a n = lent (a .low) (a .high) (a .columns) (a .relations) (a .keyword) (a .clauses) n

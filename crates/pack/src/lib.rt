@@ -2,14 +2,14 @@
 //
 // `read_pack` goes once over the bytes, token by token: the walk says what may follow (21) and finds
 // 22 to 26; each relation, clause and rule is stored when the token behind it closes it.
-// specs/Board.antt says how a token changes the arrays. They are the caller's, some 21 KB, and are
+// specs/Board.antt says how a token changes the arrays. They are the caller's, some 22 KB, and are
 // lent: returned by value they would be copied, which costs what reading a small pack does.
 ghost use mathlib.Core.Path.{_≡_};
-ghost use Prim.Native.Nat.{_-_};
+ghost use Prim.Native.Nat.{_-_, min};
 ghost use Rattle.grammar.specs.Reader.{rowOf, readPack};
 ghost use Rattle.rules.specs.Held.{lent};
 ghost use Rattle.pack.specs.Answer.{countIn, ReadAs};
-ghost use Rattle.pack.specs.Board.{setIf, tokenAt, startWalk, within4096, readBy, judged, judgedAll};
+ghost use Rattle.pack.specs.Board.{setIf, setRowIf, codeOf, rowFor, tokenAt, startWalk, within4096, readBy, judged, judgedAll};
 use answer::PackRow;
 use answer::Place;
 use answer::Refusal;
@@ -27,6 +27,8 @@ use walk::Walk;
 use walk::step_after;
 
 const MAX_BYTES: usize = 4096;
+
+const MAX_ROWS: usize = 320;
 
 // How many rules a pack has, or why it is not read.
 pub enum Read {
@@ -54,7 +56,7 @@ fn put_bytes(b: bool, a: &mut [u8], n: usize, v: u8)
     }
 }
 
-fn put_flags(b: bool, a: &mut [bool], n: usize, v: bool)
+fn put_places(b: bool, a: &mut [usize], n: usize, v: usize)
     ensures { λ _. ⌜ now (a .exit) ≡ setIf b (now (a .entry)) n v ⌝ }
 {
     if b {
@@ -64,12 +66,43 @@ fn put_flags(b: bool, a: &mut [bool], n: usize, v: bool)
     }
 }
 
-fn put_places(b: bool, a: &mut [usize], n: usize, v: usize)
-    ensures { λ _. ⌜ now (a .exit) ≡ setIf b (now (a .entry)) n v ⌝ }
+fn wide(x: u8) -> u32
+    ensures { λ r. ⌜ r ≡ x ⌝ }
 {
+    x as u32
+}
+
+fn code(negated: bool) -> u32
+    ensures { λ r. ⌜ r ≡ codeOf negated ⌝ }
+{
+    if negated { 1 } else { 0 }
+}
+
+fn narrow(n: usize) -> u32
+    ensures { λ r. ⌜ r ≡ min n 4_294_967_295 ⌝ }
+{
+    if n < 4_294_967_295 {
+        n as u32
+    } else {
+        4_294_967_295
+    }
+}
+
+// Lent as a slice the array has the length that it is declared with.
+fn whole(a: &[u32]) {}
+
+// The row n: the relation that has been read, whose ranges end at this place.
+fn put_row(b: bool, a: &mut [u32; 1280], n: usize, o: Current, end: usize)
+    ensures { λ _. ⌜ now (a .exit) ≡ setRowIf b (now (a .entry)) n (rowFor o end) ⌝ }
+{
+    whole(a);
     if b {
-        if n < a.len() {
-            a[n] = v;
+        if n < MAX_ROWS {
+            let k = 4 * n;
+            a[k] = wide(o.operand);
+            a[k + 1] = o.modulus;
+            a[k + 2] = code(o.negated);
+            a[k + 3] = narrow(end);
         }
     }
 }
@@ -185,10 +218,7 @@ fn judge_all(n: usize, w: Walk) -> Read
 fn sized(
     low: &[u32],
     high: &[u32],
-    operand: &[u8],
-    modulus: &[u32],
-    negated: &[bool],
-    ranges: &[usize],
+    columns: &[u32],
     relations: &[usize],
     keyword: &[u8],
     clauses: &[usize],
@@ -200,27 +230,14 @@ pub fn read_pack(
     text: &[u8],
     low: &mut [u32; 2048],
     high: &mut [u32; 2048],
-    operand: &mut [u8; 320],
-    modulus: &mut [u32; 320],
-    negated: &mut [bool; 320],
-    ranges: &mut [usize; 320],
+    columns: &mut [u32; 1280],
     relations: &mut [usize; 40],
     keyword: &mut [u8; 6],
     clauses: &mut [usize; 6],
 ) -> Read
-    ensures { λ r. ⌜ ReadAs (readPack (now (text .entry))) r (lent (now (low .exit)) (now (high .exit)) (now (operand .exit)) (now (modulus .exit)) (now (negated .exit)) (now (ranges .exit)) (now (relations .exit)) (now (keyword .exit)) (now (clauses .exit)) (countIn r)) ⌝ }
+    ensures { λ r. ⌜ ReadAs (readPack (now (text .entry))) r (lent (now (low .exit)) (now (high .exit)) (now (columns .exit)) (now (relations .exit)) (now (keyword .exit)) (now (clauses .exit)) (countIn r)) ⌝ }
 {
-    sized(
-        low,
-        high,
-        operand,
-        modulus,
-        negated,
-        ranges,
-        relations,
-        keyword,
-        clauses,
-    );
+    sized(low, high, columns, relations, keyword, clauses);
     let s = within(text);
     let end = b";";
     let mut w = start();
@@ -238,10 +255,7 @@ pub fn read_pack(
         put_values(g.starts, low, c.ranges, v);
         put_values(g.starts, high, c.ranges, v);
         put_values(g.ends, high, less_one(c.ranges), v);
-        put_bytes(x.relation, operand, c.relations, o.operand);
-        put_values(x.relation, modulus, c.relations, o.modulus);
-        put_flags(x.relation, negated, c.relations, o.negated);
-        put_places(x.relation, ranges, c.relations, c.ranges);
+        put_row(x.relation, columns, c.relations, o, c.ranges);
         put_places(x.clause, relations, c.clauses, d.relations);
         put_bytes(x.rule, keyword, c.rules, o.key);
         put_places(x.rule, clauses, c.rules, d.clauses);

@@ -26,10 +26,7 @@ fn check_read(pack: &[u8]) -> PackCheck
 {
     let mut low: [u32; 2048] = [0; 2048];
     let mut high: [u32; 2048] = [0; 2048];
-    let mut operand: [u8; 320] = [0; 320];
-    let mut modulus: [u32; 320] = [0; 320];
-    let mut negated = [false; 320];
-    let mut ranges: [usize; 320] = [0; 320];
+    let mut columns: [u32; 1280] = [0; 1280];
     let mut relations: [usize; 40] = [0; 40];
     let mut keyword: [u8; 6] = [0; 6];
     let mut clauses: [usize; 6] = [0; 6];
@@ -37,20 +34,14 @@ fn check_read(pack: &[u8]) -> PackCheck
         pack,
         &mut low,
         &mut high,
-        &mut operand,
-        &mut modulus,
-        &mut negated,
-        &mut ranges,
+        &mut columns,
         &mut relations,
         &mut keyword,
         &mut clauses,
     );
     match read {
         Read::Rules(count) => checked_by(clash::check(
-            &operand,
-            &modulus,
-            &negated,
-            &ranges,
+            &columns,
             &low,
             &high,
             &relations,

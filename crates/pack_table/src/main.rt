@@ -35,10 +35,7 @@ fn print_count(n: usize) {
 fn print_reading(pack: &[u8]) {
     let mut low: [u32; 2048] = [0; 2048];
     let mut high: [u32; 2048] = [0; 2048];
-    let mut operand: [u8; 320] = [0; 320];
-    let mut modulus: [u32; 320] = [0; 320];
-    let mut negated = [false; 320];
-    let mut ranges: [usize; 320] = [0; 320];
+    let mut columns: [u32; 1280] = [0; 1280];
     let mut relations: [usize; 40] = [0; 40];
     let mut keyword: [u8; 6] = [0; 6];
     let mut clauses: [usize; 6] = [0; 6];
@@ -46,10 +43,7 @@ fn print_reading(pack: &[u8]) {
         pack,
         &mut low,
         &mut high,
-        &mut operand,
-        &mut modulus,
-        &mut negated,
-        &mut ranges,
+        &mut columns,
         &mut relations,
         &mut keyword,
         &mut clauses,

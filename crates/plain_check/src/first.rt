@@ -23,10 +23,7 @@ pub struct Clash {
 
 // The first of the rules behind the rule p, below n, that clashes with it; n where none does.
 fn later_clash<'a>(
-    operand: &'a [u8; 320],
-    modulus: &'a [u32; 320],
-    negated: &'a [bool; 320],
-    ranges: &'a [usize; 320],
+    columns: &'a [u32; 1280],
     low: &'a [u32; 2048],
     high: &'a [u32; 2048],
     relations: &'a [usize; 40],
@@ -35,22 +32,11 @@ fn later_clash<'a>(
     n: usize,
 ) -> Clash
     requires { ⌜ (p < n) × (n ≤ 6) ⌝ }
-    ensures { λ r. ⌜ ((rest : Checked) → against clashOf (p + 1) (p + 1 + 1) (bareRule (table (now (operand .entry)) (now (modulus .entry)) (now (negated .entry)) (now (ranges .entry)) (now (low .entry)) (now (high .entry))) (now (relations .entry)) (now (clauses .entry)) p) (stretch (bareRule (table (now (operand .entry)) (now (modulus .entry)) (now (negated .entry)) (now (ranges .entry)) (now (low .entry)) (now (high .entry))) (now (relations .entry)) (now (clauses .entry))) (p + 1) (n - (p + 1))) rest ≡ answered p n (r .at) (r .spot) rest) × (r .at < n → r .spot .e ≤ maxExponent) × Proper (r .spot) ⌝ }
+    ensures { λ r. ⌜ ((rest : Checked) → against clashOf (p + 1) (p + 1 + 1) (bareRule (table (now (columns .entry)) (now (low .entry)) (now (high .entry))) (now (relations .entry)) (now (clauses .entry)) p) (stretch (bareRule (table (now (columns .entry)) (now (low .entry)) (now (high .entry))) (now (relations .entry)) (now (clauses .entry))) (p + 1) (n - (p + 1))) rest ≡ answered p n (r .at) (r .spot) rest) × (r .at < n → r .spot .e ≤ maxExponent) × Proper (r .spot) ⌝ }
 {
     let mut q = p + 1;
     while q < n {
-        let spot = search::try_all(
-            operand,
-            modulus,
-            negated,
-            ranges,
-            low,
-            high,
-            relations,
-            clauses,
-            p,
-            q,
-        );
+        let spot = search::try_all(columns, low, high, relations, clauses, p, q);
         if spot.e < limits::NO_EXPONENT {
             return Clash { at: q, spot: spot };
         }
@@ -74,10 +60,7 @@ fn clashes(p: usize, q: usize, s: Witness) -> Checked
 
 // The first pair among the first n rules, with its least number.
 pub fn first_pair<'a>(
-    operand: &'a [u8; 320],
-    modulus: &'a [u32; 320],
-    negated: &'a [bool; 320],
-    ranges: &'a [usize; 320],
+    columns: &'a [u32; 1280],
     low: &'a [u32; 2048],
     high: &'a [u32; 2048],
     relations: &'a [usize; 40],
@@ -85,22 +68,11 @@ pub fn first_pair<'a>(
     n: usize,
 ) -> Checked
     requires { ⌜ n ≤ 6 ⌝ }
-    ensures { λ r. ⌜ r ≡ firstPair clashOf (0 + 1) (stretch (bareRule (table (now (operand .entry)) (now (modulus .entry)) (now (negated .entry)) (now (ranges .entry)) (now (low .entry)) (now (high .entry))) (now (relations .entry)) (now (clauses .entry))) 0 (n - 0)) ⌝ }
+    ensures { λ r. ⌜ r ≡ firstPair clashOf (0 + 1) (stretch (bareRule (table (now (columns .entry)) (now (low .entry)) (now (high .entry))) (now (relations .entry)) (now (clauses .entry))) 0 (n - 0)) ⌝ }
 {
     let mut k: usize = 0;
     while k < n {
-        let c = later_clash(
-            operand,
-            modulus,
-            negated,
-            ranges,
-            low,
-            high,
-            relations,
-            clauses,
-            k,
-            n,
-        );
+        let c = later_clash(columns, low, high, relations, clauses, k, n);
         if c.at < n {
             return clashes(k, c.at, c.spot);
         }

@@ -22,10 +22,7 @@ fn rule_count(count: usize) -> usize
 
 // Lent as slices the arrays have the lengths that they are declared with; there is nothing else to do.
 fn sized<'a>(
-    operand: &'a [u8],
-    modulus: &'a [u32],
-    negated: &'a [bool],
-    ranges: &'a [usize],
+    columns: &'a [u32],
     low: &'a [u32],
     high: &'a [u32],
     relations: &'a [usize],
@@ -35,10 +32,7 @@ fn sized<'a>(
 
 // The check of the first `count` rules in a parsed pack's arrays.
 pub fn check<'a>(
-    operand: &'a [u8; 320],
-    modulus: &'a [u32; 320],
-    negated: &'a [bool; 320],
-    ranges: &'a [usize; 320],
+    columns: &'a [u32; 1280],
     low: &'a [u32; 2048],
     high: &'a [u32; 2048],
     relations: &'a [usize; 40],
@@ -46,29 +40,9 @@ pub fn check<'a>(
     clauses: &'a [usize; 6],
     count: usize,
 ) -> Checked
-    ensures { λ r. ⌜ r ≡ checkOf (heldRules (lent (now (low .entry)) (now (high .entry)) (now (operand .entry)) (now (modulus .entry)) (now (negated .entry)) (now (ranges .entry)) (now (relations .entry)) (now (keyword .entry)) (now (clauses .entry)) count)) ⌝ }
+    ensures { λ r. ⌜ r ≡ checkOf (heldRules (lent (now (low .entry)) (now (high .entry)) (now (columns .entry)) (now (relations .entry)) (now (keyword .entry)) (now (clauses .entry)) count)) ⌝ }
 {
-    sized(
-        operand,
-        modulus,
-        negated,
-        ranges,
-        low,
-        high,
-        relations,
-        keyword,
-        clauses,
-    );
+    sized(columns, low, high, relations, keyword, clauses);
     let n = rule_count(count);
-    first::first_pair(
-        operand,
-        modulus,
-        negated,
-        ranges,
-        low,
-        high,
-        relations,
-        clauses,
-        n,
-    )
+    first::first_pair(columns, low, high, relations, clauses, n)
 }

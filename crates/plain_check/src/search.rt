@@ -28,10 +28,7 @@ pub fn nowhere() -> Witness
 
 // Whether the number meets both rules.
 fn meets_both<'a>(
-    operand: &'a [u8; 320],
-    modulus: &'a [u32; 320],
-    negated: &'a [bool; 320],
-    ranges: &'a [usize; 320],
+    columns: &'a [u32; 1280],
     low: &'a [u32; 2048],
     high: &'a [u32; 2048],
     relations: &'a [usize; 40],
@@ -40,42 +37,17 @@ fn meets_both<'a>(
     second: usize,
     x: Number,
 ) -> bool
-    ensures { λ r. ⌜ r ≡ meetsBoth (table (now (operand .entry)) (now (modulus .entry)) (now (negated .entry)) (now (ranges .entry)) (now (low .entry)) (now (high .entry))) (now (relations .entry)) (now (clauses .entry)) first second x ⌝ }
+    ensures { λ r. ⌜ r ≡ meetsBoth (table (now (columns .entry)) (now (low .entry)) (now (high .entry))) (now (relations .entry)) (now (clauses .entry)) first second x ⌝ }
 {
-    if !plural::meets_held(
-        operand,
-        modulus,
-        negated,
-        ranges,
-        low,
-        high,
-        relations,
-        clauses,
-        first,
-        x,
-    ) {
+    if !plural::meets_held(columns, low, high, relations, clauses, first, x) {
         return false;
     }
-    plural::meets_held(
-        operand,
-        modulus,
-        negated,
-        ranges,
-        low,
-        high,
-        relations,
-        clauses,
-        second,
-        x,
-    )
+    plural::meets_held(columns, low, high, relations, clauses, second, x)
 }
 
 // Every f below 10^v.
 fn try_fractions<'a>(
-    operand: &'a [u8; 320],
-    modulus: &'a [u32; 320],
-    negated: &'a [bool; 320],
-    ranges: &'a [usize; 320],
+    columns: &'a [u32; 1280],
     low: &'a [u32; 2048],
     high: &'a [u32; 2048],
     relations: &'a [usize; 40],
@@ -87,25 +59,13 @@ fn try_fractions<'a>(
     i: u64,
 ) -> Witness
     requires { ⌜ (e ≤ maxExponent) × (v ≤ maxPlaces) × (lowest e ≤ i) × (i < 10 ^ maxDigits) ⌝ }
-    ensures { λ r. ⌜ Tried (meetsBoth (table (now (operand .entry)) (now (modulus .entry)) (now (negated .entry)) (now (ranges .entry)) (now (low .entry)) (now (high .entry))) (now (relations .entry)) (now (clauses .entry)) p q) (rankAt e v i 0) (rankAt e v (i + 1) 0) r ⌝ }
+    ensures { λ r. ⌜ Tried (meetsBoth (table (now (columns .entry)) (now (low .entry)) (now (high .entry))) (now (relations .entry)) (now (clauses .entry)) p q) (rankAt e v i 0) (rankAt e v (i + 1) 0) r ⌝ }
 {
     let limit = operands::power(v);
     let mut f: u64 = 0;
     while f < limit {
         let x = operands::number_at(e, v, i, f);
-        if meets_both(
-            operand,
-            modulus,
-            negated,
-            ranges,
-            low,
-            high,
-            relations,
-            clauses,
-            p,
-            q,
-            x,
-        ) {
+        if meets_both(columns, low, high, relations, clauses, p, q, x) {
             return Witness {
                 e: e,
                 v: Places(v),
@@ -120,10 +80,7 @@ fn try_fractions<'a>(
 
 // Every i from the least that e allows to below 10^15.
 fn try_integers<'a>(
-    operand: &'a [u8; 320],
-    modulus: &'a [u32; 320],
-    negated: &'a [bool; 320],
-    ranges: &'a [usize; 320],
+    columns: &'a [u32; 1280],
     low: &'a [u32; 2048],
     high: &'a [u32; 2048],
     relations: &'a [usize; 40],
@@ -134,25 +91,11 @@ fn try_integers<'a>(
     v: u8,
 ) -> Witness
     requires { ⌜ (e ≤ maxExponent) × (v ≤ maxPlaces) ⌝ }
-    ensures { λ r. ⌜ Tried (meetsBoth (table (now (operand .entry)) (now (modulus .entry)) (now (negated .entry)) (now (ranges .entry)) (now (low .entry)) (now (high .entry))) (now (relations .entry)) (now (clauses .entry)) p q) (rankAt e v 0 0) (rankAt e (v + 1) 0 0) r ⌝ }
+    ensures { λ r. ⌜ Tried (meetsBoth (table (now (columns .entry)) (now (low .entry)) (now (high .entry))) (now (relations .entry)) (now (clauses .entry)) p q) (rankAt e v 0 0) (rankAt e (v + 1) 0 0) r ⌝ }
 {
     let mut i = operands::lowest_of(e);
     while i < limits::INTEGER_LIMIT {
-        let s = try_fractions(
-            operand,
-            modulus,
-            negated,
-            ranges,
-            low,
-            high,
-            relations,
-            clauses,
-            p,
-            q,
-            e,
-            v,
-            i,
-        );
+        let s = try_fractions(columns, low, high, relations, clauses, p, q, e, v, i);
         if s.e < limits::NO_EXPONENT {
             return s;
         }
@@ -163,10 +106,7 @@ fn try_integers<'a>(
 
 // Every v.
 fn try_places<'a>(
-    operand: &'a [u8; 320],
-    modulus: &'a [u32; 320],
-    negated: &'a [bool; 320],
-    ranges: &'a [usize; 320],
+    columns: &'a [u32; 1280],
     low: &'a [u32; 2048],
     high: &'a [u32; 2048],
     relations: &'a [usize; 40],
@@ -176,24 +116,11 @@ fn try_places<'a>(
     e: u8,
 ) -> Witness
     requires { ⌜ e ≤ maxExponent ⌝ }
-    ensures { λ r. ⌜ Tried (meetsBoth (table (now (operand .entry)) (now (modulus .entry)) (now (negated .entry)) (now (ranges .entry)) (now (low .entry)) (now (high .entry))) (now (relations .entry)) (now (clauses .entry)) p q) (rankAt e 0 0 0) (rankAt (e + 1) 0 0 0) r ⌝ }
+    ensures { λ r. ⌜ Tried (meetsBoth (table (now (columns .entry)) (now (low .entry)) (now (high .entry))) (now (relations .entry)) (now (clauses .entry)) p q) (rankAt e 0 0 0) (rankAt (e + 1) 0 0 0) r ⌝ }
 {
     let mut v: u8 = 0;
     while v <= limits::MAX_PLACES {
-        let s = try_integers(
-            operand,
-            modulus,
-            negated,
-            ranges,
-            low,
-            high,
-            relations,
-            clauses,
-            p,
-            q,
-            e,
-            v,
-        );
+        let s = try_integers(columns, low, high, relations, clauses, p, q, e, v);
         if s.e < limits::NO_EXPONENT {
             return s;
         }
@@ -204,10 +131,7 @@ fn try_places<'a>(
 
 // Every e: the least number that meets the rules p and q.
 pub fn try_all<'a>(
-    operand: &'a [u8; 320],
-    modulus: &'a [u32; 320],
-    negated: &'a [bool; 320],
-    ranges: &'a [usize; 320],
+    columns: &'a [u32; 1280],
     low: &'a [u32; 2048],
     high: &'a [u32; 2048],
     relations: &'a [usize; 40],
@@ -215,23 +139,11 @@ pub fn try_all<'a>(
     p: usize,
     q: usize,
 ) -> Witness
-    ensures { λ r. ⌜ (spotRank r ≡ clashOf (bareRule (table (now (operand .entry)) (now (modulus .entry)) (now (negated .entry)) (now (ranges .entry)) (now (low .entry)) (now (high .entry))) (now (relations .entry)) (now (clauses .entry)) p) (bareRule (table (now (operand .entry)) (now (modulus .entry)) (now (negated .entry)) (now (ranges .entry)) (now (low .entry)) (now (high .entry))) (now (relations .entry)) (now (clauses .entry)) q)) × Proper r ⌝ }
+    ensures { λ r. ⌜ (spotRank r ≡ clashOf (bareRule (table (now (columns .entry)) (now (low .entry)) (now (high .entry))) (now (relations .entry)) (now (clauses .entry)) p) (bareRule (table (now (columns .entry)) (now (low .entry)) (now (high .entry))) (now (relations .entry)) (now (clauses .entry)) q)) × Proper r ⌝ }
 {
     let mut e: u8 = 0;
     while e <= limits::MAX_EXPONENT {
-        let s = try_places(
-            operand,
-            modulus,
-            negated,
-            ranges,
-            low,
-            high,
-            relations,
-            clauses,
-            p,
-            q,
-            e,
-        );
+        let s = try_places(columns, low, high, relations, clauses, p, q, e);
         if s.e < limits::NO_EXPONENT {
             return s;
         }

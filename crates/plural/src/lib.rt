@@ -46,10 +46,7 @@ fn keyword_at(keyword: &[u8; 6], k: usize) -> Keyword
 
 // Lent as slices the arrays have the lengths that they are declared with; there is nothing else to do.
 fn sized<'a>(
-    operand: &'a [u8],
-    modulus: &'a [u32],
-    negated: &'a [bool],
-    ranges: &'a [usize],
+    columns: &'a [u32],
     low: &'a [u32],
     high: &'a [u32],
     relations: &'a [usize],
@@ -60,10 +57,7 @@ fn sized<'a>(
 // The word of a number by the first `count` rules in a pack's arrays, or refusal 27 with the first two
 // rules that it meets.
 pub fn select_held<'a>(
-    operand: &'a [u8; 320],
-    modulus: &'a [u32; 320],
-    negated: &'a [bool; 320],
-    ranges: &'a [usize; 320],
+    columns: &'a [u32; 1280],
     low: &'a [u32; 2048],
     high: &'a [u32; 2048],
     relations: &'a [usize; 40],
@@ -72,31 +66,10 @@ pub fn select_held<'a>(
     count: usize,
     x: Number,
 ) -> Selection
-    ensures { λ r. ⌜ r ≡ selection (heldRules (lent (now (low .entry)) (now (high .entry)) (now (operand .entry)) (now (modulus .entry)) (now (negated .entry)) (now (ranges .entry)) (now (relations .entry)) (now (keyword .entry)) (now (clauses .entry)) count)) x ⌝ }
+    ensures { λ r. ⌜ r ≡ selection (heldRules (lent (now (low .entry)) (now (high .entry)) (now (columns .entry)) (now (relations .entry)) (now (keyword .entry)) (now (clauses .entry)) count)) x ⌝ }
 {
-    sized(
-        operand,
-        modulus,
-        negated,
-        ranges,
-        low,
-        high,
-        relations,
-        keyword,
-        clauses,
-    );
-    let m = mask::met_mask(
-        operand,
-        modulus,
-        negated,
-        ranges,
-        low,
-        high,
-        relations,
-        clauses,
-        count,
-        x,
-    );
+    sized(columns, low, high, relations, keyword, clauses);
+    let m = mask::met_mask(columns, low, high, relations, clauses, count, x);
     let met = u32::count_ones(m);
     if met == 0 {
         return Selection::Word(Keyword::Other);
@@ -122,10 +95,7 @@ fn room(clauses: &[usize]) -> usize
 
 // Whether a number meets the rule at the index j of a pack's arrays; no number meets one past them.
 pub fn meets_held<'a>(
-    operand: &'a [u8; 320],
-    modulus: &'a [u32; 320],
-    negated: &'a [bool; 320],
-    ranges: &'a [usize; 320],
+    columns: &'a [u32; 1280],
     low: &'a [u32; 2048],
     high: &'a [u32; 2048],
     relations: &'a [usize; 40],
@@ -133,21 +103,10 @@ pub fn meets_held<'a>(
     j: usize,
     x: Number,
 ) -> bool
-    ensures { λ r. ⌜ r ≡ metAt (table (now (operand .entry)) (now (modulus .entry)) (now (negated .entry)) (now (ranges .entry)) (now (low .entry)) (now (high .entry))) (now (relations .entry)) (now (clauses .entry)) x j ⌝ }
+    ensures { λ r. ⌜ r ≡ metAt (table (now (columns .entry)) (now (low .entry)) (now (high .entry))) (now (relations .entry)) (now (clauses .entry)) x j ⌝ }
 {
     if j < room(clauses) {
-        return mask::met_at(
-            operand,
-            modulus,
-            negated,
-            ranges,
-            low,
-            high,
-            relations,
-            clauses,
-            j,
-            x,
-        );
+        return mask::met_at(columns, low, high, relations, clauses, j, x);
     }
     false
 }

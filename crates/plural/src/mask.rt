@@ -40,10 +40,7 @@ fn clauses_stop(clauses: &[usize; 6], j: usize) -> usize
 
 // Whether the number meets the rule j.
 pub fn met_at<'a>(
-    operand: &'a [u8; 320],
-    modulus: &'a [u32; 320],
-    negated: &'a [bool; 320],
-    ranges: &'a [usize; 320],
+    columns: &'a [u32; 1280],
     low: &'a [u32; 2048],
     high: &'a [u32; 2048],
     relations: &'a [usize; 40],
@@ -52,13 +49,10 @@ pub fn met_at<'a>(
     x: Number,
 ) -> bool
     requires { ⌜ j < 6 ⌝ }
-    ensures { λ r. ⌜ r ≡ metAt (table (now (operand .entry)) (now (modulus .entry)) (now (negated .entry)) (now (ranges .entry)) (now (low .entry)) (now (high .entry))) (now (relations .entry)) (now (clauses .entry)) x j ⌝ }
+    ensures { λ r. ⌜ r ≡ metAt (table (now (columns .entry)) (now (low .entry)) (now (high .entry))) (now (relations .entry)) (now (clauses .entry)) x j ⌝ }
 {
     meaning::condition_holds(
-        operand,
-        modulus,
-        negated,
-        ranges,
+        columns,
         low,
         high,
         relations,
@@ -70,10 +64,7 @@ pub fn met_at<'a>(
 
 // The bits of the first `count` rules.
 pub fn met_mask<'a>(
-    operand: &'a [u8; 320],
-    modulus: &'a [u32; 320],
-    negated: &'a [bool; 320],
-    ranges: &'a [usize; 320],
+    columns: &'a [u32; 1280],
     low: &'a [u32; 2048],
     high: &'a [u32; 2048],
     relations: &'a [usize; 40],
@@ -81,25 +72,14 @@ pub fn met_mask<'a>(
     count: usize,
     x: Number,
 ) -> u32
-    ensures { λ r. ⌜ r ≡ maskOf (stretch (metAt (table (now (operand .entry)) (now (modulus .entry)) (now (negated .entry)) (now (ranges .entry)) (now (low .entry)) (now (high .entry))) (now (relations .entry)) (now (clauses .entry)) x) 0 (min count 6)) ⌝ }
+    ensures { λ r. ⌜ r ≡ maskOf (stretch (metAt (table (now (columns .entry)) (now (low .entry)) (now (high .entry))) (now (relations .entry)) (now (clauses .entry)) x) 0 (min count 6)) ⌝ }
 {
     let rules = meaning::lesser(count, MAX_RULES);
     let mut mask: u32 = 0;
     let mut bit: u32 = 0;
     let mut j = 0;
     while j < rules {
-        let met = met_at(
-            operand,
-            modulus,
-            negated,
-            ranges,
-            low,
-            high,
-            relations,
-            clauses,
-            j,
-            x,
-        );
+        let met = met_at(columns, low, high, relations, clauses, j, x);
         mask = with_bit(mask, bit, met);
         bit += 1;
         j += 1;

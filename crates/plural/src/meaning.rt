@@ -2,11 +2,11 @@
 ghost use mathlib.Core.Path.{_≡_};
 ghost use Prim.Native.Nat.{_%_, _≤_, _<_, min};
 ghost use lib.ListN.{getD};
-ghost use Rattle.rules.specs.Stretch.{startAt, rangesIn, table, relationAt, relationsIn, clauseAt, clausesIn};
+ghost use Rattle.rules.specs.Stretch.{startAt, rangesIn, relationBy, table, relationsIn, clausesIn};
 ghost use Rattle.plural.specs.Meaning.{any, inRange, operandValue, isWhole, holds, clauseHolds, conditionHolds};
 use number::Number;
-
-const MAX_RANGES: usize = 2048;
+use rules::Single;
+use rules::single_at;
 
 const MAX_RELATIONS: usize = 320;
 
@@ -38,7 +38,7 @@ pub fn lesser(a: usize, b: usize) -> usize
     if a < b { a } else { b }
 }
 
-fn operand_value(o: u8, x: Number) -> u64
+fn operand_value(o: u32, x: Number) -> u64
     ensures { λ r. ⌜ r ≡ operandValue o x ⌝ }
 {
     if o == 110 {
@@ -66,7 +66,7 @@ fn operand_value(o: u8, x: Number) -> u64
     wide8(x.e)
 }
 
-fn is_whole(o: u8, x: Number) -> bool
+fn is_whole(o: u32, x: Number) -> bool
     ensures { λ r. ⌜ r ≡ isWhole o x ⌝ }
 {
     if o == 110 {
@@ -106,51 +106,17 @@ fn in_ranges<'a>(
     false
 }
 
-// Where the relation j's ranges begin, and where they end.
-fn ranges_start(ranges: &[usize; 320], j: usize) -> usize
-    requires { ⌜ j < 320 ⌝ }
-    ensures { λ r. ⌜ r ≡ startAt (now (ranges .entry)) j ⌝ }
+// The relation holds.
+fn relation_holds<'a>(low: &'a [u32; 2048], high: &'a [u32; 2048], s: Single, x: Number) -> bool
+    requires { ⌜ s .to ≤ 2048 ⌝ }
+    ensures { λ r. ⌜ r ≡ holds (relationBy (now (low .entry)) (now (high .entry)) s) x ⌝ }
 {
-    if j == 0 {
-        return 0;
+    if !is_whole(s.operand, x) {
+        return s.negated;
     }
-    ranges[j - 1]
-}
-
-fn ranges_stop(ranges: &[usize; 320], j: usize) -> usize
-    requires { ⌜ j < 320 ⌝ }
-    ensures { λ r. ⌜ r ≡ min (getD (now (ranges .entry)) j 0) 2048 ⌝ }
-{
-    lesser(ranges[j], MAX_RANGES)
-}
-
-// The relation j holds.
-fn relation_holds<'a>(
-    operand: &'a [u8; 320],
-    modulus: &'a [u32; 320],
-    negated: &'a [bool; 320],
-    ranges: &'a [usize; 320],
-    low: &'a [u32; 2048],
-    high: &'a [u32; 2048],
-    j: usize,
-    x: Number,
-) -> bool
-    requires { ⌜ j < 320 ⌝ }
-    ensures { λ r. ⌜ r ≡ holds (relationAt (table (now (operand .entry)) (now (modulus .entry)) (now (negated .entry)) (now (ranges .entry)) (now (low .entry)) (now (high .entry))) j) x ⌝ }
-{
-    let o = operand[j];
-    if !is_whole(o, x) {
-        return negated[j];
-    }
-    let value = remainder(operand_value(o, x), wide32(modulus[j]));
-    let listed = in_ranges(
-        low,
-        high,
-        ranges_start(ranges, j),
-        ranges_stop(ranges, j),
-        value,
-    );
-    if negated[j] {
+    let value = remainder(operand_value(s.operand, x), wide32(s.modulus));
+    let listed = in_ranges(low, high, s.from, s.to, value);
+    if s.negated {
         return !listed;
     }
     listed
@@ -158,10 +124,7 @@ fn relation_holds<'a>(
 
 // The relations at `from` to before `to` all hold.
 fn clause_holds<'a>(
-    operand: &'a [u8; 320],
-    modulus: &'a [u32; 320],
-    negated: &'a [bool; 320],
-    ranges: &'a [usize; 320],
+    columns: &'a [u32; 1280],
     low: &'a [u32; 2048],
     high: &'a [u32; 2048],
     from: usize,
@@ -169,11 +132,11 @@ fn clause_holds<'a>(
     x: Number,
 ) -> bool
     requires { ⌜ to ≤ 320 ⌝ }
-    ensures { λ r. ⌜ r ≡ clauseHolds (relationsIn (table (now (operand .entry)) (now (modulus .entry)) (now (negated .entry)) (now (ranges .entry)) (now (low .entry)) (now (high .entry))) from to) x ⌝ }
+    ensures { λ r. ⌜ r ≡ clauseHolds (relationsIn (table (now (columns .entry)) (now (low .entry)) (now (high .entry))) from to) x ⌝ }
 {
     let mut j = from;
     while j < to {
-        if !relation_holds(operand, modulus, negated, ranges, low, high, j, x) {
+        if !relation_holds(low, high, single_at(columns, j), x) {
             return false;
         }
         j += 1;
@@ -201,10 +164,7 @@ fn relations_stop(relations: &[usize; 40], j: usize) -> usize
 
 // One of the clauses at `from` to before `to` holds.
 pub fn condition_holds<'a>(
-    operand: &'a [u8; 320],
-    modulus: &'a [u32; 320],
-    negated: &'a [bool; 320],
-    ranges: &'a [usize; 320],
+    columns: &'a [u32; 1280],
     low: &'a [u32; 2048],
     high: &'a [u32; 2048],
     relations: &'a [usize; 40],
@@ -213,15 +173,12 @@ pub fn condition_holds<'a>(
     x: Number,
 ) -> bool
     requires { ⌜ to ≤ 40 ⌝ }
-    ensures { λ r. ⌜ r ≡ conditionHolds (clausesIn (table (now (operand .entry)) (now (modulus .entry)) (now (negated .entry)) (now (ranges .entry)) (now (low .entry)) (now (high .entry))) (now (relations .entry)) from to) x ⌝ }
+    ensures { λ r. ⌜ r ≡ conditionHolds (clausesIn (table (now (columns .entry)) (now (low .entry)) (now (high .entry))) (now (relations .entry)) from to) x ⌝ }
 {
     let mut j = from;
     while j < to {
         if clause_holds(
-            operand,
-            modulus,
-            negated,
-            ranges,
+            columns,
             low,
             high,
             relations_start(relations, j),

@@ -2,13 +2,12 @@
 ghost use mathlib.Core.Path.{_≡_};
 ghost use mathlib.Core.Bool.{not};
 ghost use Prim.Native.Nat.{ℕ, _+_, _-_, _*_, _%_, _^_, _≤_, _<_, min};
-ghost use Rattle.rules.specs.Stretch.{rangesIn, table, relationAt};
+ghost use Rattle.rules.specs.Stretch.{rangesIn, relationBy};
 ghost use Rattle.plural.specs.Meaning.{any, all};
 ghost use Rattle.clash_laws.specs.Profile.{valuesOf, round, reaches, spares, endsIn};
 use crate::values::with_bit;
+use rules::Single;
 use runs::range::wide;
-use runs::relation::start_at;
-use runs::relation::stop_at;
 
 // Every digit.
 const EACH: u64 = 1_023;
@@ -120,30 +119,20 @@ fn all_spared<'a>(
     mask
 }
 
-// The last digits of the numbers that the relation j may hold of.
-pub fn digits_of<'a>(
-    operand: &'a [u8; 320],
-    modulus: &'a [u32; 320],
-    negated: &'a [bool; 320],
-    ranges: &'a [usize; 320],
-    low: &'a [u32; 2048],
-    high: &'a [u32; 2048],
-    j: usize,
-) -> u64
-    requires { ⌜ j < 320 ⌝ }
-    ensures { λ r. ⌜ (r ≡ valuesOf (λ (d : ℕ). endsIn d (relationAt (table (now (operand .entry)) (now (modulus .entry)) (now (negated .entry)) (now (ranges .entry)) (now (low .entry)) (now (high .entry))) j)) 10) × (r < 1_024) ⌝ }
+// The last digits of the numbers that the relation may hold of.
+pub fn digits_of<'a>(low: &'a [u32; 2048], high: &'a [u32; 2048], s: Single) -> u64
+    requires { ⌜ s .to ≤ 2048 ⌝ }
+    ensures { λ r. ⌜ (r ≡ valuesOf (λ (d : ℕ). endsIn d (relationBy (now (low .entry)) (now (high .entry)) s)) 10) × (r < 1_024) ⌝ }
 {
-    let m = modulus[j];
+    let m = s.modulus;
     if 0 < m % 10 {
         return EACH;
     }
-    let from = start_at(ranges, j);
-    let to = stop_at(ranges, j);
-    if !negated[j] {
-        return any_reached(low, high, from, to);
+    if !s.negated {
+        return any_reached(low, high, s.from, s.to);
     }
     if m == 0 {
         return EACH;
     }
-    all_spared(low, high, from, to, m)
+    all_spared(low, high, s.from, s.to, m)
 }

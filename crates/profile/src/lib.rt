@@ -11,12 +11,14 @@ ghost use mathlib.Core.Bool.{not};
 ghost use mathlib.Core.List.{List, [], _∷_};
 ghost use Prim.Native.Nat.{_/_, _%_, _≤_, _<_};
 ghost use Rattle.rules.specs.Syntax.{Relation};
-ghost use Rattle.rules.specs.Stretch.{table, relationAt, relationsIn};
+ghost use Rattle.rules.specs.Stretch.{relationBy, table, relationsIn};
 ghost use Rattle.plural.specs.Meaning.{all};
 ghost use Rattle.clash_laws.specs.Bounded.{bounded};
 ghost use Rattle.clash_laws.specs.Fast.{asksOf, exponentOf, passes, queryT};
 ghost use Rattle.clash_laws.specs.Profile.{packed, profileOf, wholeDigits, partDigits};
 use clash_laws::Bounds;
+use rules::Single;
+use rules::single_at;
 
 // Every e, and every v or w.
 const EACH_E: u64 = 32_767;
@@ -70,69 +72,58 @@ fn any_digit(e: u64, v: u64, w: u64, flags: u64) -> u64
     pack_parts(e, v, w, flags, EACH_DIGIT, EACH_DIGIT)
 }
 
-// The profile of the relation j, by its letter.
-fn relation_profile<'a>(
-    operand: &'a [u8; 320],
-    modulus: &'a [u32; 320],
-    negated: &'a [bool; 320],
-    ranges: &'a [usize; 320],
-    low: &'a [u32; 2048],
-    high: &'a [u32; 2048],
-    j: usize,
-) -> u64
-    requires { ⌜ j < 320 ⌝ }
-    ensures { λ r. ⌜ r ≡ profileOf (relationAt (table (now (operand .entry)) (now (modulus .entry)) (now (negated .entry)) (now (ranges .entry)) (now (low .entry)) (now (high .entry))) j ∷ []) ⌝ }
+// The profile of a relation, by its letter.
+fn relation_profile<'a>(low: &'a [u32; 2048], high: &'a [u32; 2048], s: Single) -> u64
+    requires { ⌜ s .to ≤ 2048 ⌝ }
+    ensures { λ r. ⌜ r ≡ profileOf (relationBy (now (low .entry)) (now (high .entry)) s ∷ []) ⌝ }
 {
-    let o = operand[j];
+    let o = s.operand;
     if o == 110 {
-        let d = digits::digits_of(operand, modulus, negated, ranges, low, high, j);
-        if negated[j] {
+        let d = digits::digits_of(low, high, s);
+        if s.negated {
             return pack_parts(EACH_E, EACH_PLACE, EACH_PLACE, N_ASKED, d, EACH_DIGIT);
         }
         return pack_parts(EACH_E, EACH_PLACE, 1, N_ASKED, d, EACH_DIGIT);
     }
     if o == 105 {
-        let d = digits::digits_of(operand, modulus, negated, ranges, low, high, j);
+        let d = digits::digits_of(low, high, s);
         return pack_parts(EACH_E, EACH_PLACE, EACH_PLACE, NEITHER_ASKED, d, d);
     }
     if o == 102 {
-        let zero = values::zero_of(operand, modulus, negated, ranges, low, high, j);
+        let zero = values::zero_of(low, high, s);
         return any_digit(EACH_E, EACH_PLACE, EACH_PLACE, zero + F_ASKED);
     }
     if o == 116 {
-        let zero = values::zero_of(operand, modulus, negated, ranges, low, high, j);
+        let zero = values::zero_of(low, high, s);
         return any_digit(EACH_E, EACH_PLACE, EACH_PLACE, zero + T_ASKED);
     }
     if o == 118 {
-        let v = values::places_of(operand, modulus, negated, ranges, low, high, j);
+        let v = values::places_of(low, high, s);
         return any_digit(EACH_E, v, EACH_PLACE, NEITHER_ASKED);
     }
     if o == 119 {
-        let w = values::places_of(operand, modulus, negated, ranges, low, high, j);
+        let w = values::places_of(low, high, s);
         return any_digit(EACH_E, EACH_PLACE, w, NEITHER_ASKED);
     }
-    let e = values::exponents_of(operand, modulus, negated, ranges, low, high, j);
+    let e = values::exponents_of(low, high, s);
     any_digit(e, EACH_PLACE, EACH_PLACE, NEITHER_ASKED)
 }
 
 // The profile of the relations from place `from` to before `to`.
 pub fn clause_profile<'a>(
-    operand: &'a [u8; 320],
-    modulus: &'a [u32; 320],
-    negated: &'a [bool; 320],
-    ranges: &'a [usize; 320],
+    columns: &'a [u32; 1280],
     low: &'a [u32; 2048],
     high: &'a [u32; 2048],
     from: usize,
     to: usize,
 ) -> u64
     requires { ⌜ to ≤ 320 ⌝ }
-    ensures { λ r. ⌜ r ≡ profileOf (relationsIn (table (now (operand .entry)) (now (modulus .entry)) (now (negated .entry)) (now (ranges .entry)) (now (low .entry)) (now (high .entry))) from to) ⌝ }
+    ensures { λ r. ⌜ r ≡ profileOf (relationsIn (table (now (columns .entry)) (now (low .entry)) (now (high .entry))) from to) ⌝ }
 {
     let mut p = any_digit(EACH_E, EACH_PLACE, EACH_PLACE, NEITHER_ASKED);
     let mut j = from;
     while j < to {
-        p = p & relation_profile(operand, modulus, negated, ranges, low, high, j);
+        p = p & relation_profile(low, high, single_at(columns, j));
         j += 1;
     }
     p

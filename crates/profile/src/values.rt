@@ -3,13 +3,14 @@ ghost use mathlib.Core.Path.{_≡_};
 ghost use mathlib.Core.Bool.{true};
 ghost use Prim.Native.Nat.{suc, _+_, _*_, _≤_, _<_};
 ghost use Rattle.number.specs.Limits.{maxExponent, maxPlaces};
-ghost use Rattle.rules.specs.Stretch.{table, relationAt};
+ghost use Rattle.rules.specs.Stretch.{relationBy};
 ghost use Rattle.plural.specs.Select.{bit};
 ghost use Rattle.clash_laws.specs.Bounded.{fromTo};
 ghost use Rattle.clash_laws.specs.Fast.{test};
 ghost use Rattle.clash_laws.specs.Profile.{valuesOf};
 use clash_laws::Bounds;
 use decimal::Places;
+use rules::Single;
 use runs::relation::holds_of;
 
 const EXPONENTS: u64 = 15;
@@ -24,25 +25,16 @@ pub fn with_bit(mask: u64, place: u64, on: bool) -> u64
     if on { mask + place } else { mask }
 }
 
-// The values below n at which the relation j holds.
-fn values_of<'a>(
-    operand: &'a [u8; 320],
-    modulus: &'a [u32; 320],
-    negated: &'a [bool; 320],
-    ranges: &'a [usize; 320],
-    low: &'a [u32; 2048],
-    high: &'a [u32; 2048],
-    j: usize,
-    n: u64,
-) -> u64
-    requires { ⌜ (j < 320) × (n ≤ 15) ⌝ }
-    ensures { λ r. ⌜ r ≡ valuesOf (test (relationAt (table (now (operand .entry)) (now (modulus .entry)) (now (negated .entry)) (now (ranges .entry)) (now (low .entry)) (now (high .entry))) j)) n ⌝ }
+// The values below n at which the relation holds.
+fn values_of<'a>(low: &'a [u32; 2048], high: &'a [u32; 2048], s: Single, n: u64) -> u64
+    requires { ⌜ (s .to ≤ 2048) × (n ≤ 15) ⌝ }
+    ensures { λ r. ⌜ r ≡ valuesOf (test (relationBy (now (low .entry)) (now (high .entry)) s)) n ⌝ }
 {
     let mut mask: u64 = 0;
     let mut place: u64 = 1;
     let mut x: u64 = 0;
     while x < n {
-        let on = holds_of(operand, modulus, negated, ranges, low, high, j, x);
+        let on = holds_of(low, high, s, x);
         mask = with_bit(mask, place, on);
         place *= 2;
         x += 1;
@@ -51,54 +43,26 @@ fn values_of<'a>(
 }
 
 // The e, and the v or w, at which it holds.
-pub fn exponents_of<'a>(
-    operand: &'a [u8; 320],
-    modulus: &'a [u32; 320],
-    negated: &'a [bool; 320],
-    ranges: &'a [usize; 320],
-    low: &'a [u32; 2048],
-    high: &'a [u32; 2048],
-    j: usize,
-) -> u64
-    requires { ⌜ j < 320 ⌝ }
-    ensures { λ r. ⌜ (r ≡ valuesOf (test (relationAt (table (now (operand .entry)) (now (modulus .entry)) (now (negated .entry)) (now (ranges .entry)) (now (low .entry)) (now (high .entry))) j)) (suc maxExponent)) × (r < 32_768) ⌝ }
+pub fn exponents_of<'a>(low: &'a [u32; 2048], high: &'a [u32; 2048], s: Single) -> u64
+    requires { ⌜ s .to ≤ 2048 ⌝ }
+    ensures { λ r. ⌜ (r ≡ valuesOf (test (relationBy (now (low .entry)) (now (high .entry)) s)) (suc maxExponent)) × (r < 32_768) ⌝ }
 {
-    values_of(operand, modulus, negated, ranges, low, high, j, EXPONENTS)
+    values_of(low, high, s, EXPONENTS)
 }
 
-pub fn places_of<'a>(
-    operand: &'a [u8; 320],
-    modulus: &'a [u32; 320],
-    negated: &'a [bool; 320],
-    ranges: &'a [usize; 320],
-    low: &'a [u32; 2048],
-    high: &'a [u32; 2048],
-    j: usize,
-) -> u64
-    requires { ⌜ j < 320 ⌝ }
-    ensures { λ r. ⌜ (r ≡ valuesOf (test (relationAt (table (now (operand .entry)) (now (modulus .entry)) (now (negated .entry)) (now (ranges .entry)) (now (low .entry)) (now (high .entry))) j)) (suc maxPlaces)) × (r < 1_024) ⌝ }
+pub fn places_of<'a>(low: &'a [u32; 2048], high: &'a [u32; 2048], s: Single) -> u64
+    requires { ⌜ s .to ≤ 2048 ⌝ }
+    ensures { λ r. ⌜ (r ≡ valuesOf (test (relationBy (now (low .entry)) (now (high .entry)) s)) (suc maxPlaces)) × (r < 1_024) ⌝ }
 {
-    values_of(operand, modulus, negated, ranges, low, high, j, PLACES)
+    values_of(low, high, s, PLACES)
 }
 
 // Whether it holds at 0, as a bit.
-pub fn zero_of<'a>(
-    operand: &'a [u8; 320],
-    modulus: &'a [u32; 320],
-    negated: &'a [bool; 320],
-    ranges: &'a [usize; 320],
-    low: &'a [u32; 2048],
-    high: &'a [u32; 2048],
-    j: usize,
-) -> u64
-    requires { ⌜ j < 320 ⌝ }
-    ensures { λ r. ⌜ (r ≡ bit (test (relationAt (table (now (operand .entry)) (now (modulus .entry)) (now (negated .entry)) (now (ranges .entry)) (now (low .entry)) (now (high .entry))) j) 0)) × (r ≤ 1) ⌝ }
+pub fn zero_of<'a>(low: &'a [u32; 2048], high: &'a [u32; 2048], s: Single) -> u64
+    requires { ⌜ s .to ≤ 2048 ⌝ }
+    ensures { λ r. ⌜ (r ≡ bit (test (relationBy (now (low .entry)) (now (high .entry)) s) 0)) × (r ≤ 1) ⌝ }
 {
-    if holds_of(operand, modulus, negated, ranges, low, high, j, 0) {
-        1
-    } else {
-        0
-    }
+    if holds_of(low, high, s, 0) { 1 } else { 0 }
 }
 
 // Whether v is within the bounds.

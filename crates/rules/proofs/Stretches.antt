@@ -1,16 +1,15 @@
 -- The rules that a parsed pack's arrays hold are those at its places.
 use mathlib.Core.Path.{_≡_, refl, sym, ap, _∙_, subst}
-use mathlib.Core.Bool.{Bool, true, false}
 use mathlib.Core.List.{List, [], _∷_, _++_}
-use Prim.Native.Nat.{ℕ, zero, suc, _+_, _-_, _≤_, _<_, min}
+use Prim.Native.Nat.{ℕ, zero, suc, _+_, _*_, _-_, _≤_, _<_, min}
 use native.Mathlib.Omega.{arith}
 use native.Mathlib.Nat.{add-zero, sub-zero, suc-sub-suc, zero-add, zero-sub, suc-min-suc, zero-min, min-zero}
 use lib.Dec.{eqb, eqb·suc-zero}
 use lib.ListN.{length, getD, take, drop, length-take}
 use lib.Seq.{getD-take}
 use Rattle.rules.specs.Syntax.{Range, Relation, Rule}
-use Rattle.rules.specs.Held.{Pack, parts, keywordOf, rangesFrom, relationsFrom, rulesFrom, heldRanges, heldRelations, heldClauses, heldRules}
-use Rattle.rules.specs.Stretch.{stretch, startAt, rangeAt, rangesIn, Table, table, tableOf, relationAt, relationsIn, clauseAt, clausesIn, ruleAt}
+use Rattle.rules.specs.Held.{Pack, Row, rowsOf, rowEnds, parts, keywordOf, rangesFrom, relationsFrom, rulesFrom, heldRanges, heldRelations, heldClauses, heldRules}
+use Rattle.rules.specs.Stretch.{stretch, startAt, rangeAt, rangesIn, endAt, rangesFromAt, Table, table, tableOf, relationAt, relationsIn, clauseAt, clausesIn, ruleAt}
 
 -- ---- stretches
 
@@ -90,19 +89,43 @@ ranges-stretch (a ∷ lows) (b ∷ highs) e =
     ap (λ (l : List Range). record { low = a; high = b } ∷ l)
     (ranges-stretch lows highs (omega arith) ∙ sym (stretch-shift (rangeAt (a ∷ lows) (b ∷ highs)) 0 (length lows)))
 
-relation : List ℕ → List ℕ → List Bool → List (List Range) → ℕ → Relation
-relation os ms ns rs j = record { operand = getD os j 0; modulus = getD ms j 0; negated = getD ns j false; ranges = getD rs j [] }
+rowAt : List ℕ → ℕ → Row
+rowAt xs j = record { operand = getD xs (4 * j) 0; modulus = getD xs (4 * j + 1) 0; comparison = getD xs (4 * j + 2) 0; end = getD xs (4 * j + 3) 0 }
 
-relations-stretch : (os ms : List ℕ) (ns : List Bool) (rs : List (List Range)) → length os ≡ length ms → length os ≡ length ns → length os ≡ length rs
-    → relationsFrom os ms ns rs ≡ stretch (relation os ms ns rs) 0 (length os)
-unfolding stretch relation
-relations-stretch [] ms ns rs p q r = refl
-relations-stretch (o ∷ os) [] ns rs p q r = absurd (omega arith)
-relations-stretch (o ∷ os) (m ∷ ms) [] rs p q r = absurd (omega arith)
-relations-stretch (o ∷ os) (m ∷ ms) (n ∷ ns) [] p q r = absurd (omega arith)
-relations-stretch (o ∷ os) (m ∷ ms) (n ∷ ns) (x ∷ rs) p q r =
-    ap (λ (l : List Relation). record { operand = o; modulus = m; negated = n; ranges = x } ∷ l)
-    (relations-stretch os ms ns rs (omega arith) (omega arith) (omega arith) ∙ sym (stretch-shift (relation (o ∷ os) (m ∷ ms) (n ∷ ns) (x ∷ rs)) 0 (length os)))
+row-next : (o m c e : ℕ) (xs : List ℕ) (j : ℕ) → rowAt (o ∷ m ∷ c ∷ e ∷ xs) (suc j) ≡ rowAt xs j
+unfolding rowAt
+row-next o m c e xs j =
+    let k : 4 * suc j ≡ suc (suc (suc (suc (4 * j)))) = omega arith in
+    let k1 : 4 * suc j + 1 ≡ suc (suc (suc (suc (4 * j + 1)))) = omega arith in
+    let k2 : 4 * suc j + 2 ≡ suc (suc (suc (suc (4 * j + 2)))) = omega arith in
+    let k3 : 4 * suc j + 3 ≡ suc (suc (suc (suc (4 * j + 3)))) = omega arith in
+    rw (k1, k2, k3, k)
+
+-- the rows of four numbers each are those at the places
+rows-stretch : (n : ℕ) (xs : List ℕ) → length xs ≡ 4 * n → rowsOf xs ≡ stretch (rowAt xs) 0 n
+unfolding stretch rowAt
+rows-stretch zero [] e = refl
+rows-stretch zero (o ∷ xs) e = absurd (omega arith)
+rows-stretch (suc n) [] e = absurd (omega arith)
+rows-stretch (suc n) (o ∷ []) e = absurd (omega arith)
+rows-stretch (suc n) (o ∷ m ∷ []) e = absurd (omega arith)
+rows-stretch (suc n) (o ∷ m ∷ c ∷ []) e = absurd (omega arith)
+rows-stretch (suc n) (o ∷ m ∷ c ∷ x ∷ xs) e =
+    ap (λ (l : List Row). record { operand = o; modulus = m; comparison = c; end = x } ∷ l)
+    (rows-stretch n xs (omega arith) ∙ stretch-same 0 n (λ k h. sym (row-next o m c x xs k)) ∙ sym (stretch-shift (rowAt (o ∷ m ∷ c ∷ x ∷ xs)) 0 n))
+
+ends-stretch : (g : ℕ → Row) (from n : ℕ) → rowEnds (stretch g from n) ≡ stretch (λ (j : ℕ). g j .end) from n
+unfolding stretch
+ends-stretch g from zero = refl
+ends-stretch g from (suc n) = ap (λ (l : List ℕ). g from .end ∷ l) (ends-stretch g (suc from) n)
+
+relations-stretch : (g : ℕ → Row) (h : ℕ → List Range) (from n : ℕ)
+    → relationsFrom (stretch g from n) (stretch h from n) ≡ stretch (λ (j : ℕ). record { operand = g j .operand; modulus = g j .modulus; negated = eqb (g j .comparison) 1; ranges = h j }) from n
+unfolding stretch
+relations-stretch g h from zero = refl
+relations-stretch g h from (suc n) =
+    ap (λ (l : List Relation). record { operand = g from .operand; modulus = g from .modulus; negated = eqb (g from .comparison) 1; ranges = h from } ∷ l)
+    (relations-stretch g h (suc from) n)
 
 rule : List ℕ → List (List (List Relation)) → ℕ → Rule
 rule ks cs j = record { keyword = keywordOf (getD ks j 0); clauses = getD cs j [] }
@@ -151,10 +174,7 @@ parts-of g ends n =
 pub record Sized (p : Pack) : Type 0 where
   pub low : length (p .low) ≡ 2048
   pub high : length (p .high) ≡ 2048
-  pub operand : length (p .operand) ≡ 320
-  pub modulus : length (p .modulus) ≡ 320
-  pub negated : length (p .negated) ≡ 320
-  pub ranges : length (p .ranges) ≡ 320
+  pub columns : length (p .columns) ≡ 1280
   pub relations : length (p .relations) ≡ 40
   pub keyword : length (p .keyword) ≡ 6
   pub clauses : length (p .clauses) ≡ 6
@@ -163,17 +183,31 @@ pub held-ranges : (p : Pack) → Sized p → heldRanges p ≡ stretch (rangeAt (
 held-ranges p s = ranges-stretch (p .low) (p .high) (s .low ∙ sym (s .high)) ∙ rw (s .low)
 
 pub held-relations : (p : Pack) → Sized p → heldRelations p ≡ stretch (relationAt (tableOf p)) 0 320
-unfolding relation
+unfolding rowAt
 held-relations p s =
-    let rs = parts 0 (p .ranges) (heldRanges p) in
-    let q : rs ≡ stretch ranges-at 0 320 = rw (held-ranges p s) (parts-of (rangeAt (p .low) (p .high)) (p .ranges) 2048 ∙ rw (s .ranges)) in
-    let l : length rs ≡ 320 = ap length q ∙ length-stretch ranges-at 0 320 in
-    relations-stretch (p .operand) (p .modulus) (p .negated) rs (s .operand ∙ sym (s .modulus)) (s .operand ∙ sym (s .negated)) (s .operand ∙ sym l)
-    ∙ rw (s .operand)
-    (stretch-same 0 320 (λ j h. ap (λ (x : List Range). record { operand = getD (p .operand) j 0; modulus = getD (p .modulus) j 0; negated = getD (p .negated) j false; ranges = x }) (ap (λ (x : List (List Range)). getD x j []) q ∙ getD-stretch ranges-at 0 320 j [] (omega arith) ∙ ap ranges-at (zero-add j))))
+    let rows : rowsOf (p .columns) ≡ stretch (rowAt (p .columns)) 0 320 = rows-stretch 320 (p .columns) (s .columns) in
+    let ends : rowEnds (rowsOf (p .columns)) ≡ stretch (endAt (p .columns)) 0 320 = ap rowEnds rows ∙ ends-stretch (rowAt (p .columns)) 0 320 in
+    let q : parts 0 (rowEnds (rowsOf (p .columns))) (heldRanges p) ≡ stretch ranges-at 0 320 =
+    rw (held-ranges p s, ends)
+    (parts-of (rangeAt (p .low) (p .high)) (stretch (endAt (p .columns)) 0 320) 2048 ∙ rw (length-stretch (endAt (p .columns)) 0 320) (stretch-same 0 320 (λ j h. same j (omega arith)))) in
+    ap (λ (l : List (List Range)). relationsFrom (rowsOf (p .columns)) l) q ∙ ap (λ (l : List Row). relationsFrom l (stretch ranges-at 0 320)) rows
+    ∙ relations-stretch (rowAt (p .columns)) ranges-at 0 320
   where
     ranges-at : ℕ → List Range
-    ranges-at j = stretch (rangeAt (p .low) (p .high)) (startAt (p .ranges) j) (min (getD (p .ranges) j 0) 2048 - startAt (p .ranges) j)
+    ranges-at j = rangesIn (p .low) (p .high) (rangesFromAt (p .columns) j) (min (endAt (p .columns) j) 2048)
+
+    ends-at : ℕ → List ℕ → ℕ → List Range
+    ends-at n ends j = stretch (rangeAt (p .low) (p .high)) (startAt ends j) (min (getD ends j 0) n - startAt ends j)
+
+    end-is : (j : ℕ) → j < 320 → getD (stretch (endAt (p .columns)) 0 320) j 0 ≡ endAt (p .columns) j
+    end-is j h = getD-stretch (endAt (p .columns)) 0 320 j 0 h ∙ ap (endAt (p .columns)) (zero-add j)
+
+    start-is : (j : ℕ) → j < 320 → startAt (stretch (endAt (p .columns)) 0 320) j ≡ rangesFromAt (p .columns) j
+    start-is zero h = refl
+    start-is (suc j) h = rw (eqb·suc-zero j) (end-is (suc j - 1) (omega arith))
+
+    same : (j : ℕ) → j < 320 → ends-at 2048 (stretch (endAt (p .columns)) 0 320) j ≡ ranges-at j
+    same j h = rw (end-is j h, start-is j h)
 
 pub held-clauses : (p : Pack) → Sized p → heldClauses p ≡ stretch (clauseAt (tableOf p) (p .relations)) 0 40
 held-clauses p s = rw (held-relations p s) (parts-of (relationAt (tableOf p)) (p .relations) 320 ∙ rw (s .relations))

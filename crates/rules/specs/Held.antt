@@ -1,6 +1,5 @@
 -- The rules that a parsed pack's arrays hold.
-use mathlib.Core.Bool.{Bool}
-use mathlib.Core.List.{List, [], _∷_}
+use mathlib.Core.List.{List, [], _∷_, map}
 use Prim.Native.Nat.{ℕ, _-_}
 use lib.Dec.{eqb}
 use lib.ListN.{take, drop}
@@ -13,10 +12,7 @@ use Rattle.rules.specs.Syntax.{Range, Relation, Rule}
 pub record Pack : Type 0 where
   pub low : List ℕ
   pub high : List ℕ
-  pub operand : List ℕ
-  pub modulus : List ℕ
-  pub negated : List Bool
-  pub ranges : List ℕ
+  pub columns : List ℕ
   pub relations : List ℕ
   pub keyword : List ℕ
   pub clauses : List ℕ
@@ -42,13 +38,29 @@ rangesFrom [] highs = []
 rangesFrom (a ∷ lows) [] = []
 rangesFrom (a ∷ lows) (b ∷ highs) = record { low = a; high = b } ∷ rangesFrom lows highs
 
-abbrev pub relationsFrom : List ℕ → List ℕ → List Bool → List (List Range) → List Relation
-relationsFrom [] ms ns rs = []
-relationsFrom (o ∷ os) [] ns rs = []
-relationsFrom (o ∷ os) (m ∷ ms) [] rs = []
-relationsFrom (o ∷ os) (m ∷ ms) (n ∷ ns) [] = []
-relationsFrom (o ∷ os) (m ∷ ms) (n ∷ ns) (r ∷ rs) =
-    record { operand = o; modulus = m; negated = n; ranges = r } ∷ relationsFrom os ms ns rs
+-- the numbers of a relation: its operand's letter, its modulus, its comparison's code (0 `=`, 1 `!=`), and where its ranges end
+pub record Row : Type 0 where
+  pub operand : ℕ
+  pub modulus : ℕ
+  pub comparison : ℕ
+  pub end : ℕ
+
+-- rows one behind the other, four numbers each
+abbrev pub rowsOf : List ℕ → List Row
+rowsOf [] = []
+rowsOf (o ∷ []) = []
+rowsOf (o ∷ m ∷ []) = []
+rowsOf (o ∷ m ∷ c ∷ []) = []
+rowsOf (o ∷ m ∷ c ∷ e ∷ xs) = record { operand = o; modulus = m; comparison = c; end = e } ∷ rowsOf xs
+
+abbrev pub rowEnds : List Row → List ℕ
+rowEnds ws = map (λ (w : Row). w .end) ws
+
+abbrev pub relationsFrom : List Row → List (List Range) → List Relation
+relationsFrom [] rs = []
+relationsFrom (w ∷ ws) [] = []
+relationsFrom (w ∷ ws) (r ∷ rs) =
+    record { operand = w .operand; modulus = w .modulus; negated = eqb (w .comparison) 1; ranges = r } ∷ relationsFrom ws rs
 
 abbrev pub rulesFrom : List ℕ → List (List (List Relation)) → List Rule
 rulesFrom [] cs = []
@@ -59,7 +71,7 @@ abbrev pub heldRanges : Pack → List Range
 heldRanges p = rangesFrom (p .low) (p .high)
 
 abbrev pub heldRelations : Pack → List Relation
-heldRelations p = relationsFrom (p .operand) (p .modulus) (p .negated) (parts 0 (p .ranges) (heldRanges p))
+heldRelations p = relationsFrom (rowsOf (p .columns)) (parts 0 (rowEnds (rowsOf (p .columns))) (heldRanges p))
 
 abbrev pub heldClauses : Pack → List (List Relation)
 heldClauses p = parts 0 (p .relations) (heldRelations p)
@@ -69,15 +81,12 @@ abbrev pub heldRules : Pack → List Rule
 heldRules p = rulesFrom (take (p .count) (p .keyword)) (parts 0 (p .clauses) (heldClauses p))
 
 -- a pack with these arrays and so many rules, as they are lent to whoever selects from them
-abbrev pub lent : List ℕ → List ℕ → List ℕ → List ℕ → List Bool → List ℕ → List ℕ → List ℕ → List ℕ → ℕ → Pack
-lent low high operand modulus negated ranges relations keyword clauses count =
+abbrev pub lent : List ℕ → List ℕ → List ℕ → List ℕ → List ℕ → List ℕ → ℕ → Pack
+lent low high columns relations keyword clauses count =
     record {
       low = low;
       high = high;
-      operand = operand;
-      modulus = modulus;
-      negated = negated;
-      ranges = ranges;
+      columns = columns;
       relations = relations;
       keyword = keyword;
       clauses = clauses;

@@ -1,12 +1,12 @@
 -- What stretches of a parsed pack's arrays hold, place by place.
-use mathlib.Core.Bool.{Bool, false}
 use mathlib.Core.List.{List, [], _∷_}
-use Prim.Native.Nat.{ℕ, zero, suc, _-_, min}
+use Prim.Native.Nat.{ℕ, zero, suc, _+_, _*_, _-_, min}
 use lib.Dec.{eqb}
 use lib.ListN.{getD}
 use Rattle.decimal.specs.Choice.{if_then_else_}
 use Rattle.rules.specs.Syntax.{Range, Relation, Rule}
 use Rattle.rules.specs.Held.{Pack, keywordOf}
+use Rattle.rules.specs.declared.Single.{Single}
 
 -- the n elements g from, g (from + 1), ..
 unfoldable pub stretch : {A : Type 0} → (ℕ → A) → ℕ → ℕ → List A
@@ -24,29 +24,42 @@ rangeAt low high k = record { low = getD low k 0; high = getD high k 0 }
 abbrev pub rangesIn : List ℕ → List ℕ → ℕ → ℕ → List Range
 rangesIn low high from to = stretch (rangeAt low high) from (to - from)
 
+-- where the ranges of the relation j end, and where they begin
+abbrev pub endAt : List ℕ → ℕ → ℕ
+endAt columns j = getD columns (4 * j + 3) 0
+
+abbrev pub rangesFromAt : List ℕ → ℕ → ℕ
+rangesFromAt columns j = if eqb j 0 then 0 else endAt columns (j - 1)
+
+-- the relation j's numbers, its ranges within the room for ranges
+abbrev pub singleAt : List ℕ → ℕ → Single
+singleAt columns j =
+    record {
+      operand = getD columns (4 * j) 0;
+      modulus = getD columns (4 * j + 1) 0;
+      negated = eqb (getD columns (4 * j + 2) 0) 1;
+      from = rangesFromAt columns j;
+      to = min (endAt columns j) 2048;
+    }
+
+-- the relation of these numbers
+abbrev pub relationBy : List ℕ → List ℕ → Single → Relation
+relationBy low high s = record { operand = s .operand; modulus = s .modulus; negated = s .negated; ranges = rangesIn low high (s .from) (s .to) }
+
 -- the arrays of relations and their ranges
 pub record Table : Type 0 where
-  pub operand : List ℕ
-  pub modulus : List ℕ
-  pub negated : List Bool
-  pub ranges : List ℕ
+  pub columns : List ℕ
   pub low : List ℕ
   pub high : List ℕ
 
-abbrev pub table : List ℕ → List ℕ → List Bool → List ℕ → List ℕ → List ℕ → Table
-table operand modulus negated ranges low high = record { operand = operand; modulus = modulus; negated = negated; ranges = ranges; low = low; high = high }
+abbrev pub table : List ℕ → List ℕ → List ℕ → Table
+table columns low high = record { columns = columns; low = low; high = high }
 
 abbrev pub tableOf : Pack → Table
-tableOf p = table (p .operand) (p .modulus) (p .negated) (p .ranges) (p .low) (p .high)
+tableOf p = table (p .columns) (p .low) (p .high)
 
 abbrev pub relationAt : Table → ℕ → Relation
-relationAt T j =
-    record {
-      operand = getD (T .operand) j 0;
-      modulus = getD (T .modulus) j 0;
-      negated = getD (T .negated) j false;
-      ranges = rangesIn (T .low) (T .high) (startAt (T .ranges) j) (min (getD (T .ranges) j 0) 2048);
-    }
+relationAt T j = relationBy (T .low) (T .high) (singleAt (T .columns) j)
 
 abbrev pub relationsIn : Table → ℕ → ℕ → List Relation
 relationsIn T from to = stretch (relationAt T) from (to - from)

@@ -1,15 +1,77 @@
 // The rules of a pack: their syntax, and the flat arrays in which a parsed pack holds them.
 //
 // specs/Syntax.antt has the rules as they are written, specs/Held.antt reads them back from the arrays.
-// There is no code here: whoever reads a pack makes the arrays as locals, crate pack fills them, and
-// selection and check are lent them. Every array is filled from its front; what lies past the filled
-// part means nothing.
+// Whoever reads a pack makes the arrays as locals, crate pack fills them, and selection and check are
+// lent them; `single_at` takes a relation's numbers out of them, once, for those who look at it alone.
+// Every array is filled from its front; what lies past the filled part means nothing.
 //
 //   low, high   [u32; 2048]    the ends of ranges `a..b`; a value a is the range a..a
-//   operand     [u8; 320]      of each relation: its operand's letter,
-//   modulus     [u32; 320]     its modulus (0: none),
-//   negated     [bool; 320]    whether it is `!=`,
-//   ranges      [usize; 320]   and where its ranges end
+//   columns     [u32; 1280]    four numbers for each relation, at 4 * j: its operand's letter, its
+//                              modulus (0: none), its comparison's code (0 `=`, 1 `!=`), and where its
+//                              ranges end
 //   relations   [usize; 40]    where the relations of each clause end
 //   keyword     [u8; 6]        of each rule: its keyword's number,
 //   clauses     [usize; 6]     and where its clauses end; `other:` has none
+ghost use mathlib.Core.Path.{_≡_};
+ghost use Prim.Native.Nat.{_≤_, _<_, min};
+ghost use Rattle.rules.specs.Stretch.{endAt, rangesFromAt, singleAt};
+
+const MAX_RANGES: usize = 2048;
+
+// A relation's numbers: its operand's letter, its modulus, whether it is `!=`, and where its ranges
+// begin and end.
+pub struct Single {
+    pub operand: u32,
+    pub modulus: u32,
+    pub negated: bool,
+    pub from: usize,
+    pub to: usize,
+}
+
+fn place(x: u32) -> usize
+    ensures { λ r. ⌜ r ≡ x ⌝ }
+{
+    x as usize
+}
+
+// Where the ranges of the relation j end.
+fn end_at(columns: &[u32; 1280], j: usize) -> usize
+    requires { ⌜ j < 320 ⌝ }
+    ensures { λ r. ⌜ r ≡ endAt (now (columns .entry)) j ⌝ }
+{
+    place(columns[4 * j + 3])
+}
+
+// Where they begin: where those of the relation before it end.
+pub fn from_at(columns: &[u32; 1280], j: usize) -> usize
+    requires { ⌜ j ≤ 320 ⌝ }
+    ensures { λ r. ⌜ r ≡ rangesFromAt (now (columns .entry)) j ⌝ }
+{
+    if j == 0 {
+        return 0;
+    }
+    end_at(columns, j - 1)
+}
+
+fn within(n: usize) -> usize
+    ensures { λ r. ⌜ r ≡ min n 2048 ⌝ }
+{
+    if n < MAX_RANGES { n } else { MAX_RANGES }
+}
+
+// The relation j's numbers.
+pub fn single_at(columns: &[u32; 1280], j: usize) -> Single
+    requires { ⌜ j < 320 ⌝ }
+    ensures { λ r. ⌜ r ≡ singleAt (now (columns .entry)) j ⌝ }
+    ensures { λ r. ⌜ r .to ≤ 2048 ⌝ }
+{
+    let from = from_at(columns, j);
+    let to = within(end_at(columns, j));
+    Single {
+        operand: columns[4 * j],
+        modulus: columns[4 * j + 1],
+        negated: columns[4 * j + 2] == 1,
+        from: from,
+        to: to,
+    }
+}

@@ -19,6 +19,7 @@ use crate::range;
 use crate::relation;
 use clash_laws::Query;
 use clash_laws::Span;
+use rules::single_at;
 
 // How many places there are from `from` to before `to`.
 fn count(from: usize, to: usize) -> usize
@@ -75,10 +76,7 @@ fn sized<'a>(says: &'a [bool], stop: &'a [u64]) {}
 
 // The run of the relation k, as it is kept, or looked for anew and kept.
 fn run_at<'a>(
-    operand: &'a [u8; 320],
-    modulus: &'a [u32; 320],
-    negated: &'a [bool; 320],
-    ranges: &'a [usize; 320],
+    columns: &'a [u32; 1280],
     low: &'a [u32; 2048],
     high: &'a [u32; 2048],
     s: Span,
@@ -91,10 +89,10 @@ fn run_at<'a>(
 ) -> Run
     requires { ⌜ Fit q ⌝ }
     requires { ⌜ Room q p ⌝ }
-    requires { ⌜ (s .to ≤ 320) × (s .stop ≤ 320) × (k < sizeOf s) × (k < 16) × (level < 9) × (level ≡ tier q (relationAt (table (now operand) (now modulus) (now negated) (now ranges) (now low) (now high)) (placeOf s k))) ⌝ }
-    requires { ⌜ Kept (table (now operand) (now modulus) (now negated) (now ranges) (now low) (now high)) s q level p (now says) (now stop) ⌝ }
-    ensures { λ r. ⌜ Alike (ownOne q level (relationAt (table (now (operand .entry)) (now (modulus .entry)) (now (negated .entry)) (now (ranges .entry)) (now (low .entry)) (now (high .entry))) (placeOf s k))) p (r .says) (r .stop) ⌝ }
-    ensures { λ _. ⌜ Kept (table (now (operand .entry)) (now (modulus .entry)) (now (negated .entry)) (now (ranges .entry)) (now (low .entry)) (now (high .entry))) s q level p (now (says .exit)) (now (stop .exit)) ⌝ }
+    requires { ⌜ (s .to ≤ 320) × (s .stop ≤ 320) × (k < sizeOf s) × (k < 16) × (level < 9) × (level ≡ tier q (relationAt (table (now columns) (now low) (now high)) (placeOf s k))) ⌝ }
+    requires { ⌜ Kept (table (now columns) (now low) (now high)) s q level p (now says) (now stop) ⌝ }
+    ensures { λ r. ⌜ Alike (ownOne q level (relationAt (table (now (columns .entry)) (now (low .entry)) (now (high .entry))) (placeOf s k))) p (r .says) (r .stop) ⌝ }
+    ensures { λ _. ⌜ Kept (table (now (columns .entry)) (now (low .entry)) (now (high .entry))) s q level p (now (says .exit)) (now (stop .exit)) ⌝ }
 {
     let end = stop[k];
     if p < end {
@@ -104,18 +102,7 @@ fn run_at<'a>(
         };
     }
     sized(says, stop);
-    let r = relation::own_run(
-        operand,
-        modulus,
-        negated,
-        ranges,
-        low,
-        high,
-        q,
-        level,
-        place_of(s, k),
-        p,
-    );
+    let r = relation::own_run(low, high, q, level, single_at(columns, place_of(s, k)), p);
     says[k] = r.says;
     stop[k] = r.stop;
     r
@@ -124,10 +111,7 @@ fn run_at<'a>(
 // What the clause asks of p at a level, and up to where it says the same. `list` has the relations of the
 // level; the first that says no ends it.
 pub fn clause_run<'a>(
-    operand: &'a [u8; 320],
-    modulus: &'a [u32; 320],
-    negated: &'a [bool; 320],
-    ranges: &'a [usize; 320],
+    columns: &'a [u32; 1280],
     low: &'a [u32; 2048],
     high: &'a [u32; 2048],
     s: Span,
@@ -141,11 +125,11 @@ pub fn clause_run<'a>(
 ) -> Run
     requires { ⌜ Fit q ⌝ }
     requires { ⌜ Room q p ⌝ }
-    requires { ⌜ (s .to ≤ 320) × (s .stop ≤ 320) × (sizeOf s ≤ 16) × Listed (table (now operand) (now modulus) (now negated) (now ranges) (now low) (now high)) s q level (now list) count ⌝ }
-    requires { ⌜ Kept (table (now operand) (now modulus) (now negated) (now ranges) (now low) (now high)) s q level p (now says) (now stop) ⌝ }
-    ensures { λ r. ⌜ Alike (own q (joinedIn (table (now (operand .entry)) (now (modulus .entry)) (now (negated .entry)) (now (ranges .entry)) (now (low .entry)) (now (high .entry))) s) level) p (r .says) (r .stop) ⌝ }
+    requires { ⌜ (s .to ≤ 320) × (s .stop ≤ 320) × (sizeOf s ≤ 16) × Listed (table (now columns) (now low) (now high)) s q level (now list) count ⌝ }
+    requires { ⌜ Kept (table (now columns) (now low) (now high)) s q level p (now says) (now stop) ⌝ }
+    ensures { λ r. ⌜ Alike (own q (joinedIn (table (now (columns .entry)) (now (low .entry)) (now (high .entry))) s) level) p (r .says) (r .stop) ⌝ }
     ensures { λ r. ⌜ r .stop ≤ far ⌝ }
-    ensures { λ _. ⌜ Kept (table (now (operand .entry)) (now (modulus .entry)) (now (negated .entry)) (now (ranges .entry)) (now (low .entry)) (now (high .entry))) s q level p (now (says .exit)) (now (stop .exit)) ⌝ }
+    ensures { λ _. ⌜ Kept (table (now (columns .entry)) (now (low .entry)) (now (high .entry))) s q level p (now (says .exit)) (now (stop .exit)) ⌝ }
 {
     let digit = digit_run(q, level, p);
     if !digit.says {
@@ -154,21 +138,7 @@ pub fn clause_run<'a>(
     let mut end = FAR;
     let mut i = 0;
     while i < count {
-        let r = run_at(
-            operand,
-            modulus,
-            negated,
-            ranges,
-            low,
-            high,
-            s,
-            q,
-            level,
-            p,
-            list[i],
-            says,
-            stop,
-        );
+        let r = run_at(columns, low, high, s, q, level, p, list[i], says, stop);
         if !r.says {
             return Run {
                 says: false,
@@ -196,10 +166,7 @@ pub fn ends_of(q: Query, x: u64) -> bool
 
 // Whether x passes all that the clause asks of it.
 pub fn passes_at<'a>(
-    operand: &'a [u8; 320],
-    modulus: &'a [u32; 320],
-    negated: &'a [bool; 320],
-    ranges: &'a [usize; 320],
+    columns: &'a [u32; 1280],
     low: &'a [u32; 2048],
     high: &'a [u32; 2048],
     s: Span,
@@ -207,7 +174,7 @@ pub fn passes_at<'a>(
     x: u64,
 ) -> bool
     requires { ⌜ Room q x × (s .to ≤ 320) × (s .stop ≤ 320) ⌝ }
-    ensures { λ r. ⌜ r ≡ passesAll q (joinedIn (table (now (operand .entry)) (now (modulus .entry)) (now (negated .entry)) (now (ranges .entry)) (now (low .entry)) (now (high .entry))) s) x ⌝ }
+    ensures { λ r. ⌜ r ≡ passesAll q (joinedIn (table (now (columns .entry)) (now (low .entry)) (now (high .entry))) s) x ⌝ }
 {
     if !ends_of(q, x) {
         return false;
@@ -216,7 +183,7 @@ pub fn passes_at<'a>(
     let mut k = 0;
     while k < size {
         let j = place_of(s, k);
-        if !relation::passes_of(operand, modulus, negated, ranges, low, high, q, j, x) {
+        if !relation::passes_of(low, high, q, single_at(columns, j), x) {
             return false;
         }
         k += 1;

@@ -1,10 +1,11 @@
 // The levels that a clause asks are marked, and the relations of one level listed.
 ghost use mathlib.Core.Path.{_≡_};
 ghost use mathlib.Core.Bool.{true, false};
+ghost use mathlib.Core.List.{List};
 ghost use Prim.Native.Nat.{ℕ, _≤_, _<_};
 ghost use lib.ListN.{length, getD};
 ghost use Rattle.decimal.specs.Choice.{if_then_else_};
-ghost use Rattle.rules.specs.Stretch.{table, relationAt};
+ghost use Rattle.rules.specs.Stretch.{relationBy, table};
 ghost use Rattle.clash_laws.specs.Levels.{own, levelled};
 ghost use Rattle.clash_laws.specs.Read.{joinedIn};
 ghost use Rattle.clash_laws.specs.Ready.{Fit};
@@ -15,6 +16,8 @@ use crate::range;
 use crate::relation;
 use clash_laws::Query;
 use clash_laws::Span;
+use rules::Single;
+use rules::single_at;
 
 // The level that is told of a relation that is not asked.
 const UNASKED: usize = 9;
@@ -41,39 +44,25 @@ fn mark_digit(q: Query, asked: &mut [bool; 9])
     }
 }
 
-// Marks the level of the relation j, where it is asked, and tells it.
-fn mark_of<'a>(
-    operand: &'a [u8; 320],
-    modulus: &'a [u32; 320],
-    negated: &'a [bool; 320],
-    ranges: &'a [usize; 320],
-    low: &'a [u32; 2048],
-    high: &'a [u32; 2048],
-    q: Query,
-    j: usize,
-    asked: &mut [bool; 9],
-) -> usize
+// Marks the level of the relation, where it is asked, and tells it.
+fn mark_of(q: Query, s: Single, asked: &mut [bool; 9]) -> usize
     requires { ⌜ Fit q ⌝ }
-    requires { ⌜ j < 320 ⌝ }
-    ensures { λ r. ⌜ r ≡ tier q (relationAt (table (now (operand .entry)) (now (modulus .entry)) (now (negated .entry)) (now (ranges .entry)) (now (low .entry)) (now (high .entry))) j) ⌝ }
-    ensures { λ _. ⌜ Noted q (relationAt (table (now (operand .entry)) (now (modulus .entry)) (now (negated .entry)) (now (ranges .entry)) (now (low .entry)) (now (high .entry))) j) (now (asked .exit)) ⌝ }
+    ensures { λ r. ⌜ ((low high : List ℕ) → r ≡ tier q (relationBy low high s)) ⌝ }
+    ensures { λ _. ⌜ ((low high : List ℕ) → Noted q (relationBy low high s) (now (asked .exit))) ⌝ }
     ensures { λ _. ⌜ Grown (now (asked .entry)) (now (asked .exit)) ⌝ }
 {
-    let s = relation::factor_of(q, operand[j]);
-    if s == 0 {
+    let k = relation::factor_of(q, s.operand);
+    if k == 0 {
         return UNASKED;
     }
-    let l = relation::level_of(s, range::wide(modulus[j]));
+    let l = relation::level_of(k, range::wide(s.modulus));
     mark(asked, l);
     l
 }
 
 // Marks the levels that the clause asks, and tells that of each relation.
 pub fn mark_levels<'a>(
-    operand: &'a [u8; 320],
-    modulus: &'a [u32; 320],
-    negated: &'a [bool; 320],
-    ranges: &'a [usize; 320],
+    columns: &'a [u32; 1280],
     low: &'a [u32; 2048],
     high: &'a [u32; 2048],
     s: Span,
@@ -83,16 +72,16 @@ pub fn mark_levels<'a>(
 )
     requires { ⌜ Fit q ⌝ }
     requires { ⌜ (s .to ≤ 320) × (s .stop ≤ 320) × (sizeOf s ≤ 16) × (length (now tiers) ≡ 16) ⌝ }
-    ensures { λ _. ⌜ Told (table (now (operand .entry)) (now (modulus .entry)) (now (negated .entry)) (now (ranges .entry)) (now (low .entry)) (now (high .entry))) s q (now (tiers .exit)) ⌝ }
-    ensures { λ _. ⌜ ((j : ℕ) → j < 9 → getD (now (asked .exit)) j false ≡ false → (x : ℕ) → own q (joinedIn (table (now (operand .entry)) (now (modulus .entry)) (now (negated .entry)) (now (ranges .entry)) (now (low .entry)) (now (high .entry))) s) j x ≡ true) ⌝ }
-    ensures { λ _. ⌜ (getD (now (asked .exit)) 8 false ≡ false → levelled q (joinedIn (table (now (operand .entry)) (now (modulus .entry)) (now (negated .entry)) (now (ranges .entry)) (now (low .entry)) (now (high .entry))) s) ≡ true) ⌝ }
+    ensures { λ _. ⌜ Told (table (now (columns .entry)) (now (low .entry)) (now (high .entry))) s q (now (tiers .exit)) ⌝ }
+    ensures { λ _. ⌜ ((j : ℕ) → j < 9 → getD (now (asked .exit)) j false ≡ false → (x : ℕ) → own q (joinedIn (table (now (columns .entry)) (now (low .entry)) (now (high .entry))) s) j x ≡ true) ⌝ }
+    ensures { λ _. ⌜ (getD (now (asked .exit)) 8 false ≡ false → levelled q (joinedIn (table (now (columns .entry)) (now (low .entry)) (now (high .entry))) s) ≡ true) ⌝ }
 {
     mark_digit(q, asked);
     let size = clause::size_of(s);
     let mut k = 0;
     while k < size {
         let j = clause::place_of(s, k);
-        tiers[k] = mark_of(operand, modulus, negated, ranges, low, high, q, j, asked);
+        tiers[k] = mark_of(q, single_at(columns, j), asked);
         k += 1;
     }
 }

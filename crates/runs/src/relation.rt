@@ -1,11 +1,10 @@
-// Relations at their places in a pack's arrays: what one says of a value, or of the number searched for
+// A relation, its numbers taken out of the pack's arrays: what it says of a value, or of the number searched for
 // at a level, and how far it says so.
 ghost use mathlib.Core.Path.{_≡_};
 ghost use mathlib.Core.Bool.{not};
-ghost use Prim.Native.Nat.{_+_, _-_, _*_, _/_, _%_, _≤_, _<_, min};
-ghost use lib.ListN.{getD};
+ghost use Prim.Native.Nat.{_+_, _-_, _*_, _/_, _%_, _≤_, _<_};
 ghost use Rattle.decimal.specs.Choice.{if_then_else_};
-ghost use Rattle.rules.specs.Stretch.{startAt, table, relationAt};
+ghost use Rattle.rules.specs.Stretch.{relationBy};
 ghost use Rattle.least.specs.Seek.{Alike};
 ghost use Rattle.clash_laws.specs.Fast.{listed, test, factor, passes};
 ghost use Rattle.clash_laws.specs.Levels.{levelOf, ownOne};
@@ -16,28 +15,7 @@ ghost use Rattle.runs.specs.Runs.{far, upwards};
 use crate::Run;
 use crate::range;
 use clash_laws::Query;
-
-const MAX_RANGES: usize = 2048;
-
-// Where the ranges of the relation j begin.
-pub fn start_at(ends: &[usize; 320], j: usize) -> usize
-    requires { ⌜ j < 320 ⌝ }
-    ensures { λ r. ⌜ r ≡ startAt (now (ends .entry)) j ⌝ }
-{
-    if j == 0 {
-        return 0;
-    }
-    ends[j - 1]
-}
-
-// Where they end, within the room for ranges.
-pub fn stop_at(ends: &[usize; 320], j: usize) -> usize
-    requires { ⌜ j < 320 ⌝ }
-    ensures { λ r. ⌜ r ≡ min (getD (now (ends .entry)) j 0) 2048 ⌝ }
-{
-    let end = ends[j];
-    if end < MAX_RANGES { end } else { MAX_RANGES }
-}
+use rules::Single;
 
 // x's remainder by m; x itself where m is 0.
 fn remainder(x: u64, m: u64) -> u64
@@ -56,51 +34,31 @@ fn turned(b: bool, negated: bool) -> bool
     if negated { !b } else { b }
 }
 
-// What the relation j says of the remainder y, or of the value y where it has no modulus.
-fn listed_run<'a>(
-    operand: &'a [u8; 320],
-    modulus: &'a [u32; 320],
-    negated: &'a [bool; 320],
-    ranges: &'a [usize; 320],
-    low: &'a [u32; 2048],
-    high: &'a [u32; 2048],
-    j: usize,
-    y: u64,
-) -> Run
-    requires { ⌜ (j < 320) × (y ≤ cap) ⌝ }
-    ensures { λ r. ⌜ Alike (listed (relationAt (table (now (operand .entry)) (now (modulus .entry)) (now (negated .entry)) (now (ranges .entry)) (now (low .entry)) (now (high .entry))) j)) y (r .says) (r .stop) ⌝ }
+// What the relation says of the remainder y, or of the value y where it has no modulus.
+fn listed_run<'a>(low: &'a [u32; 2048], high: &'a [u32; 2048], s: Single, y: u64) -> Run
+    requires { ⌜ (s .to ≤ 2048) × (y ≤ cap) ⌝ }
+    ensures { λ r. ⌜ Alike (listed (relationBy (now (low .entry)) (now (high .entry)) s)) y (r .says) (r .stop) ⌝ }
     ensures { λ r. ⌜ r .stop ≤ far ⌝ }
 {
-    let from = start_at(ranges, j);
-    let to = stop_at(ranges, j);
-    let r = range::range_run(low, high, from, to, y);
+    let r = range::range_run(low, high, s.from, s.to, y);
     Run {
-        says: turned(r.says, negated[j]),
+        says: turned(r.says, s.negated),
         stop: r.stop,
     }
 }
 
 // Whether it holds of the value x.
-pub fn holds_of<'a>(
-    operand: &'a [u8; 320],
-    modulus: &'a [u32; 320],
-    negated: &'a [bool; 320],
-    ranges: &'a [usize; 320],
-    low: &'a [u32; 2048],
-    high: &'a [u32; 2048],
-    j: usize,
-    x: u64,
-) -> bool
-    requires { ⌜ (x ≤ cap) × (j < 320) ⌝ }
-    ensures { λ r. ⌜ r ≡ test (relationAt (table (now (operand .entry)) (now (modulus .entry)) (now (negated .entry)) (now (ranges .entry)) (now (low .entry)) (now (high .entry))) j) x ⌝ }
+pub fn holds_of<'a>(low: &'a [u32; 2048], high: &'a [u32; 2048], s: Single, x: u64) -> bool
+    requires { ⌜ (x ≤ cap) × (s .to ≤ 2048) ⌝ }
+    ensures { λ r. ⌜ r ≡ test (relationBy (now (low .entry)) (now (high .entry)) s) x ⌝ }
 {
-    let y = remainder(x, range::wide(modulus[j]));
-    let r = listed_run(operand, modulus, negated, ranges, low, high, j, y);
+    let y = remainder(x, range::wide(s.modulus));
+    let r = listed_run(low, high, s, y);
     r.says
 }
 
 // The factor of an operand, by its letter.
-pub fn factor_of(q: Query, o: u8) -> u64
+pub fn factor_of(q: Query, o: u32) -> u64
     ensures { λ r. ⌜ r ≡ factor q o ⌝ }
 {
     if o == 110 {
@@ -119,7 +77,7 @@ pub fn factor_of(q: Query, o: u8) -> u64
 }
 
 // The same of an operand that is asked: 1, but for f.
-fn asked_factor(q: Query, o: u8) -> u64
+fn asked_factor(q: Query, o: u32) -> u64
     requires { ⌜ Fit q × (factor q o ≡ 0 → ⊥) ⌝ }
     ensures { λ r. ⌜ r ≡ factor q o ⌝ }
 {
@@ -176,51 +134,43 @@ fn upwards_by(y: u64, s: u64) -> u64
     (y + (s - 1)) / s
 }
 
-// What the relation j, which is asked, asks of p at its level.
+// What the relation, which is asked, asks of p at its level.
 pub fn own_run<'a>(
-    operand: &'a [u8; 320],
-    modulus: &'a [u32; 320],
-    negated: &'a [bool; 320],
-    ranges: &'a [usize; 320],
     low: &'a [u32; 2048],
     high: &'a [u32; 2048],
     q: Query,
     level: usize,
-    j: usize,
+    s: Single,
     p: u64,
 ) -> Run
     requires { ⌜ Fit q ⌝ }
     requires { ⌜ Room q p ⌝ }
-    requires { ⌜ (j < 320) × (level < 9) × (level ≡ tier q (relationAt (table (now operand) (now modulus) (now negated) (now ranges) (now low) (now high)) j)) ⌝ }
-    ensures { λ r. ⌜ Alike (ownOne q level (relationAt (table (now (operand .entry)) (now (modulus .entry)) (now (negated .entry)) (now (ranges .entry)) (now (low .entry)) (now (high .entry))) j)) p (r .says) (r .stop) ⌝ }
+    requires { ⌜ (s .to ≤ 2048) × (level < 9) × (level ≡ tier q (relationBy (now low) (now high) s)) ⌝ }
+    ensures { λ r. ⌜ Alike (ownOne q level (relationBy (now (low .entry)) (now (high .entry)) s)) p (r .says) (r .stop) ⌝ }
     ensures { λ r. ⌜ r .stop ≤ far ⌝ }
 {
-    let s = asked_factor(q, operand[j]);
-    let r = listed_run(operand, modulus, negated, ranges, low, high, j, p * s);
+    let k = asked_factor(q, s.operand);
+    let r = listed_run(low, high, s, p * k);
     Run {
         says: r.says,
-        stop: upwards_by(r.stop, s),
+        stop: upwards_by(r.stop, k),
     }
 }
 
-// Whether x passes what the relation j asks of it.
+// Whether x passes what the relation asks of it.
 pub fn passes_of<'a>(
-    operand: &'a [u8; 320],
-    modulus: &'a [u32; 320],
-    negated: &'a [bool; 320],
-    ranges: &'a [usize; 320],
     low: &'a [u32; 2048],
     high: &'a [u32; 2048],
     q: Query,
-    j: usize,
+    s: Single,
     x: u64,
 ) -> bool
-    requires { ⌜ Room q x × (j < 320) ⌝ }
-    ensures { λ r. ⌜ r ≡ passes q (relationAt (table (now (operand .entry)) (now (modulus .entry)) (now (negated .entry)) (now (ranges .entry)) (now (low .entry)) (now (high .entry))) j) x ⌝ }
+    requires { ⌜ Room q x × (s .to ≤ 2048) ⌝ }
+    ensures { λ r. ⌜ r ≡ passes q (relationBy (now (low .entry)) (now (high .entry)) s) x ⌝ }
 {
-    let s = factor_of(q, operand[j]);
-    if s == 0 {
+    let k = factor_of(q, s.operand);
+    if k == 0 {
         return true;
     }
-    holds_of(operand, modulus, negated, ranges, low, high, j, x * s)
+    holds_of(low, high, s, x * k)
 }

@@ -47,10 +47,7 @@ fn one_if(b: bool) -> u64
 
 // The least i at e; there is none below the floor.
 pub fn integer_of<'a>(
-    operand: &'a [u8; 320],
-    modulus: &'a [u32; 320],
-    negated: &'a [bool; 320],
-    ranges: &'a [usize; 320],
+    columns: &'a [u32; 1280],
     low: &'a [u32; 2048],
     high: &'a [u32; 2048],
     s: Span,
@@ -58,8 +55,8 @@ pub fn integer_of<'a>(
     e: u64,
     floor: u64,
 ) -> u64
-    requires { ⌜ (e ≤ maxExponent) × (s .to ≤ 320) × (s .stop ≤ 320) × NoneBelow (queryI whole) (joinedIn (table (now operand) (now modulus) (now negated) (now ranges) (now low) (now high)) s) floor ⌝ }
-    ensures { λ r. ⌜ r ≡ integerOf whole e (joinedIn (table (now (operand .entry)) (now (modulus .entry)) (now (negated .entry)) (now (ranges .entry)) (now (low .entry)) (now (high .entry))) s) ⌝ }
+    requires { ⌜ (e ≤ maxExponent) × (s .to ≤ 320) × (s .stop ≤ 320) × NoneBelow (queryI whole) (joinedIn (table (now columns) (now low) (now high)) s) floor ⌝ }
+    ensures { λ r. ⌜ r ≡ integerOf whole e (joinedIn (table (now (columns .entry)) (now (low .entry)) (now (high .entry))) s) ⌝ }
 {
     let n = one_if(whole);
     let q = Query {
@@ -70,19 +67,7 @@ pub fn integer_of<'a>(
         odd: false,
     };
     let lo = lowest_of(e);
-    floor::least_from(
-        operand,
-        modulus,
-        negated,
-        ranges,
-        low,
-        high,
-        s,
-        q,
-        lo,
-        floor,
-        limits::INTEGER_LIMIT,
-    )
+    floor::least_from(columns, low, high, s, q, lo, floor, limits::INTEGER_LIMIT)
 }
 
 // The number with e, with v and f as one number q, and with i; none where i is past the largest.
@@ -104,10 +89,7 @@ fn spot_of(e: u64, q: u64, i: u64) -> Witness
 // The least number at e whose f is not 0. There is no search where the floor leaves no t, and none for f
 // where there is no i.
 fn part_spot<'a>(
-    operand: &'a [u8; 320],
-    modulus: &'a [u32; 320],
-    negated: &'a [bool; 320],
-    ranges: &'a [usize; 320],
+    columns: &'a [u32; 1280],
     low: &'a [u32; 2048],
     high: &'a [u32; 2048],
     s: Span,
@@ -116,9 +98,9 @@ fn part_spot<'a>(
     l: Floors,
     e: u64,
 ) -> Witness
-    requires { ⌜ (e ≤ maxExponent) × (s .to ≤ 320) × (s .stop ≤ 320) × Under (joinedIn (table (now operand) (now modulus) (now negated) (now ranges) (now low) (now high)) s) l ⌝ }
-    requires { ⌜ p ≡ profileOf (bounded b (joinedIn (table (now operand) (now modulus) (now negated) (now ranges) (now low) (now high)) s)) ⌝ }
-    ensures { λ r. ⌜ (spotRank r ≡ kindSpot false e (bounded b (joinedIn (table (now (operand .entry)) (now (modulus .entry)) (now (negated .entry)) (now (ranges .entry)) (now (low .entry)) (now (high .entry))) s))) × Proper r ⌝ }
+    requires { ⌜ (e ≤ maxExponent) × (s .to ≤ 320) × (s .stop ≤ 320) × Under (joinedIn (table (now columns) (now low) (now high)) s) l ⌝ }
+    requires { ⌜ p ≡ profileOf (bounded b (joinedIn (table (now columns) (now low) (now high)) s)) ⌝ }
+    ensures { λ r. ⌜ (spotRank r ≡ kindSpot false e (bounded b (joinedIn (table (now (columns .entry)) (now (low .entry)) (now (high .entry))) s))) × Proper r ⌝ }
 {
     if !places::opens(profile::v_of(p), profile::w_of(p)) {
         return order::nowhere();
@@ -126,33 +108,11 @@ fn part_spot<'a>(
     if limits::FRACTION_LIMIT <= l.tail {
         return order::nowhere();
     }
-    let i = integer_of(
-        operand,
-        modulus,
-        negated,
-        ranges,
-        low,
-        high,
-        s,
-        false,
-        e,
-        l.part,
-    );
+    let i = integer_of(columns, low, high, s, false, e, l.part);
     if limits::INTEGER_LIMIT <= i {
         return order::nowhere();
     }
-    let q = fraction::part_code(
-        operand,
-        modulus,
-        negated,
-        ranges,
-        low,
-        high,
-        s,
-        b,
-        p,
-        l.tail,
-    );
+    let q = fraction::part_code(columns, low, high, s, b, p, l.tail);
     if limits::FRACTIONS <= q {
         return order::nowhere();
     }
@@ -176,10 +136,7 @@ fn comes_first(p: u64, q: u64, i: u64) -> bool
 
 // The least number at e.
 fn spot_at<'a>(
-    operand: &'a [u8; 320],
-    modulus: &'a [u32; 320],
-    negated: &'a [bool; 320],
-    ranges: &'a [usize; 320],
+    columns: &'a [u32; 1280],
     low: &'a [u32; 2048],
     high: &'a [u32; 2048],
     s: Span,
@@ -188,40 +145,26 @@ fn spot_at<'a>(
     l: Floors,
     e: u64,
 ) -> Witness
-    requires { ⌜ (e ≤ maxExponent) × (s .to ≤ 320) × (s .stop ≤ 320) × Under (joinedIn (table (now operand) (now modulus) (now negated) (now ranges) (now low) (now high)) s) l ⌝ }
-    requires { ⌜ (p ≡ profileOf (bounded b (joinedIn (table (now operand) (now modulus) (now negated) (now ranges) (now low) (now high)) s))) × (e ≡ exponentOf (bounded b (joinedIn (table (now operand) (now modulus) (now negated) (now ranges) (now low) (now high)) s))) ⌝ }
-    ensures { λ r. ⌜ (spotRank r ≡ clauseRank (bounded b (joinedIn (table (now (operand .entry)) (now (modulus .entry)) (now (negated .entry)) (now (ranges .entry)) (now (low .entry)) (now (high .entry))) s))) × Proper r ⌝ }
+    requires { ⌜ (e ≤ maxExponent) × (s .to ≤ 320) × (s .stop ≤ 320) × Under (joinedIn (table (now columns) (now low) (now high)) s) l ⌝ }
+    requires { ⌜ (p ≡ profileOf (bounded b (joinedIn (table (now columns) (now low) (now high)) s))) × (e ≡ exponentOf (bounded b (joinedIn (table (now columns) (now low) (now high)) s))) ⌝ }
+    ensures { λ r. ⌜ (spotRank r ≡ clauseRank (bounded b (joinedIn (table (now (columns .entry)) (now (low .entry)) (now (high .entry))) s))) × Proper r ⌝ }
 {
     let q = places::whole_code(p);
     if limits::FRACTIONS <= q {
-        return part_spot(operand, modulus, negated, ranges, low, high, s, b, p, l, e);
+        return part_spot(columns, low, high, s, b, p, l, e);
     }
-    let i = integer_of(
-        operand,
-        modulus,
-        negated,
-        ranges,
-        low,
-        high,
-        s,
-        true,
-        e,
-        l.whole,
-    );
+    let i = integer_of(columns, low, high, s, true, e, l.whole);
     let x = spot_of(e, q, i);
     if comes_first(p, q, i) {
         return x;
     }
-    let y = part_spot(operand, modulus, negated, ranges, low, high, s, b, p, l, e);
+    let y = part_spot(columns, low, high, s, b, p, l, e);
     order::earlier(x, y)
 }
 
 // The least number of the clause whose v is within the bounds; p is the profile of both.
 pub fn clause_spot<'a>(
-    operand: &'a [u8; 320],
-    modulus: &'a [u32; 320],
-    negated: &'a [bool; 320],
-    ranges: &'a [usize; 320],
+    columns: &'a [u32; 1280],
     low: &'a [u32; 2048],
     high: &'a [u32; 2048],
     s: Span,
@@ -229,13 +172,13 @@ pub fn clause_spot<'a>(
     p: u64,
     l: Floors,
 ) -> Witness
-    requires { ⌜ (s .to ≤ 320) × (s .stop ≤ 320) × Under (joinedIn (table (now operand) (now modulus) (now negated) (now ranges) (now low) (now high)) s) l ⌝ }
-    requires { ⌜ p ≡ profileOf (bounded b (joinedIn (table (now operand) (now modulus) (now negated) (now ranges) (now low) (now high)) s)) ⌝ }
-    ensures { λ r. ⌜ (spotRank r ≡ clauseRank (bounded b (joinedIn (table (now (operand .entry)) (now (modulus .entry)) (now (negated .entry)) (now (ranges .entry)) (now (low .entry)) (now (high .entry))) s))) × Proper r ⌝ }
+    requires { ⌜ (s .to ≤ 320) × (s .stop ≤ 320) × Under (joinedIn (table (now columns) (now low) (now high)) s) l ⌝ }
+    requires { ⌜ p ≡ profileOf (bounded b (joinedIn (table (now columns) (now low) (now high)) s)) ⌝ }
+    ensures { λ r. ⌜ (spotRank r ≡ clauseRank (bounded b (joinedIn (table (now (columns .entry)) (now (low .entry)) (now (high .entry))) s))) × Proper r ⌝ }
 {
     let e = profile::exponent_of(p);
     if limits::MAX_EXPONENT < e {
         return order::nowhere();
     }
-    spot_at(operand, modulus, negated, ranges, low, high, s, b, p, l, e)
+    spot_at(columns, low, high, s, b, p, l, e)
 }

@@ -17,10 +17,7 @@ use clash_laws::Span;
 // The least number from lo on and below hi that passes, or hi. Where the floor is not below hi there is
 // no search.
 pub fn least_from<'a>(
-    operand: &'a [u8; 320],
-    modulus: &'a [u32; 320],
-    negated: &'a [bool; 320],
-    ranges: &'a [usize; 320],
+    columns: &'a [u32; 1280],
     low: &'a [u32; 2048],
     high: &'a [u32; 2048],
     s: Span,
@@ -29,14 +26,14 @@ pub fn least_from<'a>(
     floor: u64,
     hi: u64,
 ) -> u64
-    requires { ⌜ NoneBelow q (joinedIn (table (now operand) (now modulus) (now negated) (now ranges) (now low) (now high)) s) floor ⌝ }
-    ensures { λ r. ⌜ r ≡ leastIn (table (now (operand .entry)) (now (modulus .entry)) (now (negated .entry)) (now (ranges .entry)) (now (low .entry)) (now (high .entry))) s q lo hi ⌝ }
+    requires { ⌜ NoneBelow q (joinedIn (table (now columns) (now low) (now high)) s) floor ⌝ }
+    ensures { λ r. ⌜ r ≡ leastIn (table (now (columns .entry)) (now (low .entry)) (now (high .entry))) s q lo hi ⌝ }
 {
     let from = order::greater(lo, floor);
     if hi <= from {
         return hi;
     }
-    next_table::least_number(operand, modulus, negated, ranges, low, high, s, q, from, hi)
+    next_table::least_number(columns, low, high, s, q, from, hi)
 }
 
 // A floor of i, or past every i where no last digit is left.

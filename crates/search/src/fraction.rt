@@ -25,18 +25,15 @@ fn lesser(a: u64, b: u64) -> u64
 
 // The least t before k zeros, by a search; there is none below the least by what is asked of t alone.
 fn tail_of<'a>(
-    operand: &'a [u8; 320],
-    modulus: &'a [u32; 320],
-    negated: &'a [bool; 320],
-    ranges: &'a [usize; 320],
+    columns: &'a [u32; 1280],
     low: &'a [u32; 2048],
     high: &'a [u32; 2048],
     s: Span,
     k: u64,
     least: u64,
 ) -> u64
-    requires { ⌜ (k < maxPlaces) × (s .to ≤ 320) × (s .stop ≤ 320) × (least ≡ aloneOf (joinedIn (table (now operand) (now modulus) (now negated) (now ranges) (now low) (now high)) s)) ⌝ }
-    ensures { λ r. ⌜ r ≡ tailOf k (joinedIn (table (now (operand .entry)) (now (modulus .entry)) (now (negated .entry)) (now (ranges .entry)) (now (low .entry)) (now (high .entry))) s) ⌝ }
+    requires { ⌜ (k < maxPlaces) × (s .to ≤ 320) × (s .stop ≤ 320) × (least ≡ aloneOf (joinedIn (table (now columns) (now low) (now high)) s)) ⌝ }
+    ensures { λ r. ⌜ r ≡ tailOf k (joinedIn (table (now (columns .entry)) (now (low .entry)) (now (high .entry))) s) ⌝ }
 {
     let ten = power(k);
     let end = power(limits::MAX_PLACES - k);
@@ -47,34 +44,19 @@ fn tail_of<'a>(
         t: 1,
         odd: true,
     };
-    floor::least_from(
-        operand,
-        modulus,
-        negated,
-        ranges,
-        low,
-        high,
-        s,
-        q,
-        0,
-        least,
-        end,
-    )
+    floor::least_from(columns, low, high, s, q, 0, least, end)
 }
 
 // The least t by what is asked of t alone; there is none below the floor.
 pub fn alone_of<'a>(
-    operand: &'a [u8; 320],
-    modulus: &'a [u32; 320],
-    negated: &'a [bool; 320],
-    ranges: &'a [usize; 320],
+    columns: &'a [u32; 1280],
     low: &'a [u32; 2048],
     high: &'a [u32; 2048],
     s: Span,
     floor: u64,
 ) -> u64
-    requires { ⌜ (s .to ≤ 320) × (s .stop ≤ 320) × NoneBelow alone (joinedIn (table (now operand) (now modulus) (now negated) (now ranges) (now low) (now high)) s) floor ⌝ }
-    ensures { λ r. ⌜ r ≡ aloneOf (joinedIn (table (now (operand .entry)) (now (modulus .entry)) (now (negated .entry)) (now (ranges .entry)) (now (low .entry)) (now (high .entry))) s) ⌝ }
+    requires { ⌜ (s .to ≤ 320) × (s .stop ≤ 320) × NoneBelow alone (joinedIn (table (now columns) (now low) (now high)) s) floor ⌝ }
+    ensures { λ r. ⌜ r ≡ aloneOf (joinedIn (table (now (columns .entry)) (now (low .entry)) (now (high .entry))) s) ⌝ }
 {
     let q = Query {
         n: 0,
@@ -83,28 +65,13 @@ pub fn alone_of<'a>(
         t: 1,
         odd: true,
     };
-    floor::least_from(
-        operand,
-        modulus,
-        negated,
-        ranges,
-        low,
-        high,
-        s,
-        q,
-        0,
-        floor,
-        limits::FRACTION_LIMIT,
-    )
+    floor::least_from(columns, low, high, s, q, 0, floor, limits::FRACTION_LIMIT)
 }
 
 // The least t before k zeros, where t is the least by what is asked of t alone: where no relation asks f,
 // there is no more to ask.
 fn tail_at<'a>(
-    operand: &'a [u8; 320],
-    modulus: &'a [u32; 320],
-    negated: &'a [bool; 320],
-    ranges: &'a [usize; 320],
+    columns: &'a [u32; 1280],
     low: &'a [u32; 2048],
     high: &'a [u32; 2048],
     s: Span,
@@ -112,21 +79,18 @@ fn tail_at<'a>(
     t: u64,
     spared: bool,
 ) -> u64
-    requires { ⌜ (k < maxPlaces) × (s .to ≤ 320) × (s .stop ≤ 320) × (t ≡ aloneOf (joinedIn (table (now operand) (now modulus) (now negated) (now ranges) (now low) (now high)) s)) × (spared ≡ not (asksOf 102 (joinedIn (table (now operand) (now modulus) (now negated) (now ranges) (now low) (now high)) s))) ⌝ }
-    ensures { λ r. ⌜ r ≡ tailOf k (joinedIn (table (now (operand .entry)) (now (modulus .entry)) (now (negated .entry)) (now (ranges .entry)) (now (low .entry)) (now (high .entry))) s) ⌝ }
+    requires { ⌜ (k < maxPlaces) × (s .to ≤ 320) × (s .stop ≤ 320) × (t ≡ aloneOf (joinedIn (table (now columns) (now low) (now high)) s)) × (spared ≡ not (asksOf 102 (joinedIn (table (now columns) (now low) (now high)) s))) ⌝ }
+    ensures { λ r. ⌜ r ≡ tailOf k (joinedIn (table (now (columns .entry)) (now (low .entry)) (now (high .entry))) s) ⌝ }
 {
     if spared {
         return lesser(t, power(limits::MAX_PLACES - k));
     }
-    tail_of(operand, modulus, negated, ranges, low, high, s, k, t)
+    tail_of(columns, low, high, s, k, t)
 }
 
 // The least v and f, where f ends in k zeros and is not 0. There is no search where no v is settled.
 fn tail_code<'a>(
-    operand: &'a [u8; 320],
-    modulus: &'a [u32; 320],
-    negated: &'a [bool; 320],
-    ranges: &'a [usize; 320],
+    columns: &'a [u32; 1280],
     low: &'a [u32; 2048],
     high: &'a [u32; 2048],
     s: Span,
@@ -137,25 +101,14 @@ fn tail_code<'a>(
     t: u64,
     spared: bool,
 ) -> u64
-    requires { ⌜ (k < maxPlaces) × (s .to ≤ 320) × (s .stop ≤ 320) × (t ≡ aloneOf (joinedIn (table (now operand) (now modulus) (now negated) (now ranges) (now low) (now high)) s)) × (spared ≡ not (asksOf 102 (joinedIn (table (now operand) (now modulus) (now negated) (now ranges) (now low) (now high)) s))) ⌝ }
-    requires { ⌜ Settled (bounded b (joinedIn (table (now operand) (now modulus) (now negated) (now ranges) (now low) (now high)) s)) vs ws ⌝ }
-    ensures { λ r. ⌜ r ≡ tailCode k (bounded b (joinedIn (table (now (operand .entry)) (now (modulus .entry)) (now (negated .entry)) (now (ranges .entry)) (now (low .entry)) (now (high .entry))) s)) ⌝ }
+    requires { ⌜ (k < maxPlaces) × (s .to ≤ 320) × (s .stop ≤ 320) × (t ≡ aloneOf (joinedIn (table (now columns) (now low) (now high)) s)) × (spared ≡ not (asksOf 102 (joinedIn (table (now columns) (now low) (now high)) s))) ⌝ }
+    requires { ⌜ Settled (bounded b (joinedIn (table (now columns) (now low) (now high)) s)) vs ws ⌝ }
+    ensures { λ r. ⌜ r ≡ tailCode k (bounded b (joinedIn (table (now (columns .entry)) (now (low .entry)) (now (high .entry))) s)) ⌝ }
 {
     if limits::MAX_PLACES < places::settled_places(vs, ws, k) {
         return limits::FRACTIONS;
     }
-    let u = tail_at(
-        operand,
-        modulus,
-        negated,
-        ranges,
-        low,
-        high,
-        s,
-        k,
-        t,
-        spared,
-    );
+    let u = tail_at(columns, low, high, s, k, t, spared);
     let v = places::tail_places(vs, ws, k, u);
     if limits::MAX_PLACES < v {
         return limits::FRACTIONS;
@@ -165,10 +118,7 @@ fn tail_code<'a>(
 
 // The least over the zeros at the end of f. More zeros need more places than one that is found may have.
 fn least_code<'a>(
-    operand: &'a [u8; 320],
-    modulus: &'a [u32; 320],
-    negated: &'a [bool; 320],
-    ranges: &'a [usize; 320],
+    columns: &'a [u32; 1280],
     low: &'a [u32; 2048],
     high: &'a [u32; 2048],
     s: Span,
@@ -178,9 +128,9 @@ fn least_code<'a>(
     t: u64,
     spared: bool,
 ) -> u64
-    requires { ⌜ (s .to ≤ 320) × (s .stop ≤ 320) × (t ≡ aloneOf (joinedIn (table (now operand) (now modulus) (now negated) (now ranges) (now low) (now high)) s)) × (spared ≡ not (asksOf 102 (joinedIn (table (now operand) (now modulus) (now negated) (now ranges) (now low) (now high)) s))) ⌝ }
-    requires { ⌜ Settled (bounded b (joinedIn (table (now operand) (now modulus) (now negated) (now ranges) (now low) (now high)) s)) vs ws ⌝ }
-    ensures { λ r. ⌜ r ≡ partCode maxPlaces (bounded b (joinedIn (table (now (operand .entry)) (now (modulus .entry)) (now (negated .entry)) (now (ranges .entry)) (now (low .entry)) (now (high .entry))) s)) ⌝ }
+    requires { ⌜ (s .to ≤ 320) × (s .stop ≤ 320) × (t ≡ aloneOf (joinedIn (table (now columns) (now low) (now high)) s)) × (spared ≡ not (asksOf 102 (joinedIn (table (now columns) (now low) (now high)) s))) ⌝ }
+    requires { ⌜ Settled (bounded b (joinedIn (table (now columns) (now low) (now high)) s)) vs ws ⌝ }
+    ensures { λ r. ⌜ r ≡ partCode maxPlaces (bounded b (joinedIn (table (now (columns .entry)) (now (low .entry)) (now (high .entry))) s)) ⌝ }
 {
     let mut best: u64 = limits::FRACTIONS;
     let mut k: u64 = 0;
@@ -190,21 +140,7 @@ fn least_code<'a>(
         }
         best = lesser(
             best,
-            tail_code(
-                operand,
-                modulus,
-                negated,
-                ranges,
-                low,
-                high,
-                s,
-                b,
-                vs,
-                ws,
-                k,
-                t,
-                spared,
-            ),
+            tail_code(columns, low, high, s, b, vs, ws, k, t, spared),
         );
         k += 1;
     }
@@ -213,16 +149,13 @@ fn least_code<'a>(
 
 // The least f other than 0 by what is asked of f alone.
 fn least_f<'a>(
-    operand: &'a [u8; 320],
-    modulus: &'a [u32; 320],
-    negated: &'a [bool; 320],
-    ranges: &'a [usize; 320],
+    columns: &'a [u32; 1280],
     low: &'a [u32; 2048],
     high: &'a [u32; 2048],
     s: Span,
 ) -> u64
     requires { ⌜ (s .to ≤ 320) × (s .stop ≤ 320) ⌝ }
-    ensures { λ r. ⌜ r ≡ leastF (joinedIn (table (now (operand .entry)) (now (modulus .entry)) (now (negated .entry)) (now (ranges .entry)) (now (low .entry)) (now (high .entry))) s) ⌝ }
+    ensures { λ r. ⌜ r ≡ leastF (joinedIn (table (now (columns .entry)) (now (low .entry)) (now (high .entry))) s) ⌝ }
 {
     let q = Query {
         n: 0,
@@ -231,19 +164,7 @@ fn least_f<'a>(
         t: 0,
         odd: false,
     };
-    floor::least_from(
-        operand,
-        modulus,
-        negated,
-        ranges,
-        low,
-        high,
-        s,
-        q,
-        1,
-        0,
-        limits::FRACTION_LIMIT,
-    )
+    floor::least_from(columns, low, high, s, q, 1, 0, limits::FRACTION_LIMIT)
 }
 
 // How many zeros f ends in, or 8 where it ends in more.
@@ -272,10 +193,7 @@ fn code_of(v: u64, f: u64) -> u64
 // f alone, nor its v before the least with room for that. So they are a bound, and often reached: then
 // one search for t is enough.
 fn asked_code<'a>(
-    operand: &'a [u8; 320],
-    modulus: &'a [u32; 320],
-    negated: &'a [bool; 320],
-    ranges: &'a [usize; 320],
+    columns: &'a [u32; 1280],
     low: &'a [u32; 2048],
     high: &'a [u32; 2048],
     s: Span,
@@ -284,56 +202,26 @@ fn asked_code<'a>(
     ws: u64,
     t: u64,
 ) -> u64
-    requires { ⌜ (s .to ≤ 320) × (s .stop ≤ 320) × (t ≡ aloneOf (joinedIn (table (now operand) (now modulus) (now negated) (now ranges) (now low) (now high)) s)) × (false ≡ not (asksOf 102 (joinedIn (table (now operand) (now modulus) (now negated) (now ranges) (now low) (now high)) s))) ⌝ }
-    requires { ⌜ Settled (bounded b (joinedIn (table (now operand) (now modulus) (now negated) (now ranges) (now low) (now high)) s)) vs ws ⌝ }
-    ensures { λ r. ⌜ r ≡ partCode maxPlaces (bounded b (joinedIn (table (now (operand .entry)) (now (modulus .entry)) (now (negated .entry)) (now (ranges .entry)) (now (low .entry)) (now (high .entry))) s)) ⌝ }
+    requires { ⌜ (s .to ≤ 320) × (s .stop ≤ 320) × (t ≡ aloneOf (joinedIn (table (now columns) (now low) (now high)) s)) × (false ≡ not (asksOf 102 (joinedIn (table (now columns) (now low) (now high)) s))) ⌝ }
+    requires { ⌜ Settled (bounded b (joinedIn (table (now columns) (now low) (now high)) s)) vs ws ⌝ }
+    ensures { λ r. ⌜ r ≡ partCode maxPlaces (bounded b (joinedIn (table (now (columns .entry)) (now (low .entry)) (now (high .entry))) s)) ⌝ }
 {
-    let f = least_f(operand, modulus, negated, ranges, low, high, s);
+    let f = least_f(columns, low, high, s);
     let v = places::least_room(vs, f);
     if limits::MAX_PLACES < v {
         return limits::FRACTIONS;
     }
     let k = zeros_of(f);
-    let x = tail_code(
-        operand,
-        modulus,
-        negated,
-        ranges,
-        low,
-        high,
-        s,
-        b,
-        vs,
-        ws,
-        k,
-        t,
-        false,
-    );
+    let x = tail_code(columns, low, high, s, b, vs, ws, k, t, false);
     if x <= code_of(v, f) {
         return x;
     }
-    least_code(
-        operand,
-        modulus,
-        negated,
-        ranges,
-        low,
-        high,
-        s,
-        b,
-        vs,
-        ws,
-        t,
-        false,
-    )
+    least_code(columns, low, high, s, b, vs, ws, t, false)
 }
 
 // The least v and f, where f is not 0: none where no t meets what is asked of t alone.
 pub fn part_code<'a>(
-    operand: &'a [u8; 320],
-    modulus: &'a [u32; 320],
-    negated: &'a [bool; 320],
-    ranges: &'a [usize; 320],
+    columns: &'a [u32; 1280],
     low: &'a [u32; 2048],
     high: &'a [u32; 2048],
     s: Span,
@@ -341,43 +229,18 @@ pub fn part_code<'a>(
     p: u64,
     floor: u64,
 ) -> u64
-    requires { ⌜ (s .to ≤ 320) × (s .stop ≤ 320) × NoneBelow alone (joinedIn (table (now operand) (now modulus) (now negated) (now ranges) (now low) (now high)) s) floor ⌝ }
-    requires { ⌜ p ≡ profileOf (bounded b (joinedIn (table (now operand) (now modulus) (now negated) (now ranges) (now low) (now high)) s)) ⌝ }
-    ensures { λ r. ⌜ r ≡ partCode maxPlaces (bounded b (joinedIn (table (now (operand .entry)) (now (modulus .entry)) (now (negated .entry)) (now (ranges .entry)) (now (low .entry)) (now (high .entry))) s)) ⌝ }
+    requires { ⌜ (s .to ≤ 320) × (s .stop ≤ 320) × NoneBelow alone (joinedIn (table (now columns) (now low) (now high)) s) floor ⌝ }
+    requires { ⌜ p ≡ profileOf (bounded b (joinedIn (table (now columns) (now low) (now high)) s)) ⌝ }
+    ensures { λ r. ⌜ r ≡ partCode maxPlaces (bounded b (joinedIn (table (now (columns .entry)) (now (low .entry)) (now (high .entry))) s)) ⌝ }
 {
-    let t = alone_of(operand, modulus, negated, ranges, low, high, s, floor);
+    let t = alone_of(columns, low, high, s, floor);
     if limits::FRACTION_LIMIT <= t {
         return limits::FRACTIONS;
     }
     let vs = profile::v_of(p);
     let ws = profile::w_of(p);
     if profile::spares_f(p) {
-        return least_code(
-            operand,
-            modulus,
-            negated,
-            ranges,
-            low,
-            high,
-            s,
-            b,
-            vs,
-            ws,
-            t,
-            true,
-        );
+        return least_code(columns, low, high, s, b, vs, ws, t, true);
     }
-    asked_code(
-        operand,
-        modulus,
-        negated,
-        ranges,
-        low,
-        high,
-        s,
-        b,
-        vs,
-        ws,
-        t,
-    )
+    asked_code(columns, low, high, s, b, vs, ws, t)
 }

@@ -34,10 +34,7 @@ use clash_laws::Span;
 // bounds; order::nowhere() where there is none. p is the relations' profile; the floors, and the profile's last
 // digits, spare the search what lies below them.
 pub fn least_admitted<'a>(
-    operand: &'a [u8; 320],
-    modulus: &'a [u32; 320],
-    negated: &'a [bool; 320],
-    ranges: &'a [usize; 320],
+    columns: &'a [u32; 1280],
     low: &'a [u32; 2048],
     high: &'a [u32; 2048],
     s: Span,
@@ -45,14 +42,11 @@ pub fn least_admitted<'a>(
     p: u64,
     l: Floors,
 ) -> Witness
-    requires { ⌜ (s .to ≤ 320) × (s .stop ≤ 320) × (p ≡ profileOf (joinedIn (table (now operand) (now modulus) (now negated) (now ranges) (now low) (now high)) s)) × Under (joinedIn (table (now operand) (now modulus) (now negated) (now ranges) (now low) (now high)) s) l ⌝ }
-    ensures { λ r. ⌜ (spotRank r ≡ leastRank (λ (x : Number). both (withinPlaces b x) (clauseHolds (joinedIn (table (now (operand .entry)) (now (modulus .entry)) (now (negated .entry)) (now (ranges .entry)) (now (low .entry)) (now (high .entry))) s) x))) × Proper r ⌝ }
+    requires { ⌜ (s .to ≤ 320) × (s .stop ≤ 320) × (p ≡ profileOf (joinedIn (table (now columns) (now low) (now high)) s)) × Under (joinedIn (table (now columns) (now low) (now high)) s) l ⌝ }
+    ensures { λ r. ⌜ (spotRank r ≡ leastRank (λ (x : Number). both (withinPlaces b x) (clauseHolds (joinedIn (table (now (columns .entry)) (now (low .entry)) (now (high .entry))) s) x))) × Proper r ⌝ }
 {
     clause::clause_spot(
-        operand,
-        modulus,
-        negated,
-        ranges,
+        columns,
         low,
         high,
         s,
@@ -65,21 +59,18 @@ pub fn least_admitted<'a>(
 // The least i where f is 0, the least i where it is not, and the least t, of the relations of both
 // stretches: floors of each clause that they are a part of.
 pub fn floors_of<'a>(
-    operand: &'a [u8; 320],
-    modulus: &'a [u32; 320],
-    negated: &'a [bool; 320],
-    ranges: &'a [usize; 320],
+    columns: &'a [u32; 1280],
     low: &'a [u32; 2048],
     high: &'a [u32; 2048],
     s: Span,
 ) -> Floors
     requires { ⌜ (s .to ≤ 320) × (s .stop ≤ 320) ⌝ }
-    ensures { λ r. ⌜ Under (joinedIn (table (now (operand .entry)) (now (modulus .entry)) (now (negated .entry)) (now (ranges .entry)) (now (low .entry)) (now (high .entry))) s) r ⌝ }
-    ensures { λ r. ⌜ (r .whole ≡ search (queryI true) (joinedIn (table (now (operand .entry)) (now (modulus .entry)) (now (negated .entry)) (now (ranges .entry)) (now (low .entry)) (now (high .entry))) s) 0 (10 ^ maxDigits)) × (r .part ≡ search (queryI false) (joinedIn (table (now (operand .entry)) (now (modulus .entry)) (now (negated .entry)) (now (ranges .entry)) (now (low .entry)) (now (high .entry))) s) 0 (10 ^ maxDigits)) × (r .tail ≡ search alone (joinedIn (table (now (operand .entry)) (now (modulus .entry)) (now (negated .entry)) (now (ranges .entry)) (now (low .entry)) (now (high .entry))) s) 0 (10 ^ maxPlaces)) ⌝ }
+    ensures { λ r. ⌜ Under (joinedIn (table (now (columns .entry)) (now (low .entry)) (now (high .entry))) s) r ⌝ }
+    ensures { λ r. ⌜ (r .whole ≡ search (queryI true) (joinedIn (table (now (columns .entry)) (now (low .entry)) (now (high .entry))) s) 0 (10 ^ maxDigits)) × (r .part ≡ search (queryI false) (joinedIn (table (now (columns .entry)) (now (low .entry)) (now (high .entry))) s) 0 (10 ^ maxDigits)) × (r .tail ≡ search alone (joinedIn (table (now (columns .entry)) (now (low .entry)) (now (high .entry))) s) 0 (10 ^ maxPlaces)) ⌝ }
 {
-    let whole = clause::integer_of(operand, modulus, negated, ranges, low, high, s, true, 0, 0);
-    let part = clause::integer_of(operand, modulus, negated, ranges, low, high, s, false, 0, 0);
-    let tail = fraction::alone_of(operand, modulus, negated, ranges, low, high, s, 0);
+    let whole = clause::integer_of(columns, low, high, s, true, 0, 0);
+    let part = clause::integer_of(columns, low, high, s, false, 0, 0);
+    let tail = fraction::alone_of(columns, low, high, s, 0);
     Floors {
         whole: whole,
         part: part,

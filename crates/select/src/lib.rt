@@ -25,10 +25,7 @@ fn select_read(pack: &[u8], reading: Reading) -> Selection
 {
     let mut low: [u32; 2048] = [0; 2048];
     let mut high: [u32; 2048] = [0; 2048];
-    let mut operand: [u8; 320] = [0; 320];
-    let mut modulus: [u32; 320] = [0; 320];
-    let mut negated = [false; 320];
-    let mut ranges: [usize; 320] = [0; 320];
+    let mut columns: [u32; 1280] = [0; 1280];
     let mut relations: [usize; 40] = [0; 40];
     let mut keyword: [u8; 6] = [0; 6];
     let mut clauses: [usize; 6] = [0; 6];
@@ -36,10 +33,7 @@ fn select_read(pack: &[u8], reading: Reading) -> Selection
         pack,
         &mut low,
         &mut high,
-        &mut operand,
-        &mut modulus,
-        &mut negated,
-        &mut ranges,
+        &mut columns,
         &mut relations,
         &mut keyword,
         &mut clauses,
@@ -47,10 +41,7 @@ fn select_read(pack: &[u8], reading: Reading) -> Selection
     match read {
         Read::Rules(count) => match reading {
             Reading::Is(x) => plural::select_held(
-                &operand,
-                &modulus,
-                &negated,
-                &ranges,
+                &columns,
                 &low,
                 &high,
                 &relations,

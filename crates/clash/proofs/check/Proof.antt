@@ -22,13 +22,32 @@ fill-requires : tie.Need-fill-requires
 fill-requires c κs = c .before .clauses-end .ensures .0
 
 fill-requires-2 : tie.Need-fill-requires-2
-fill-requires-2 c κs = let a = c .before .before .before .before .before .before .before .before .before .before .before .before .before .before .before .before .before .args in let T = table (a .operand .now) (a .modulus .now) (a .negated .now) (a .ranges .now) (a .low .now) (a .high .now) in (c .before .before .before .before .before .clauses-end .ensures .0, floored-fresh T (a .relations .now))
+fill-requires-2 c κs =
+    let a = c .before .before .before .before .before .before .before .before .before .before .before .before .before .before .args in
+    (c .before .before .before .before .before .clauses-end .ensures .0, floored-fresh (table (a .columns .now) (a .low .now) (a .high .now)) (a .relations .now))
 
 first-pair-requires : tie.Need-first-pair-requires
-first-pair-requires c κs = let a = c .before .before .before .before .before .before .before .before .before .before .before .before .before .before .before .before .before .before .before .before .before .before .args in let T = table (a .operand .now) (a .modulus .now) (a .negated .now) (a .ranges .now) (a .low .now) (a .high .now) in ((omega (arith, c .before .before .before .before .before .before .before .before .before .before .before .rule-count .ensures), c .before .before .before .before .fill2 .ensures), profiled-rules T (a .relations .now) (a .clauses .now) (c .before .before .before .before .before .before .before .before .before .before .before .rule-count .result) (c .before .before .before .before .before .before .before .before .before .before .clauses-end .result) (c .before .before .before .before .before .before .before .before .fill .last .1 .1 .1 .1 .1 .1 .1 .0) (c .before .before .before .before .before .before .before .before .fill .ensures) (c .before .before .before .before .before .before .before .before .before .before .clauses-end .ensures .1))
+first-pair-requires c κs =
+    let a = c .before .before .before .before .before .before .before .before .before .before .before .before .before .before .before .before .before .before .before .args in
+    let n = c .before .before .before .before .before .before .before .before .before .before .before .rule-count in
+    let e = c .before .before .before .before .before .before .before .before .before .before .clauses-end in
+    let f = c .before .before .before .before .before .before .before .before .fill in
+    ((omega (arith, n .ensures), c .before .before .before .before .fill2 .ensures), profiled-rules (table (a .columns .now) (a .low .now) (a .high .now)) (a .relations .now) (a .clauses .now) (n .result) (e .result) (f .last .1 .1 .1 .1 .0) (f .ensures) (e .ensures .1))
 
 returns : tie.Need-returns
-returns c = let a = c .before .before .before .before .before .before .before .before .before .before .before .before .before .before .before .before .before .before .before .before .before .before .before .args in let T = table (a .operand .now) (a .modulus .now) (a .negated .now) (a .ranges .now) (a .low .now) (a .high .now) in held-is (lent (a .low .now) (a .high .now) (a .operand .now) (a .modulus .now) (a .negated .now) (a .ranges .now) (a .relations .now) (a .keyword .now) (a .clauses .now) (a .count)) (c .before .before .before .before .before .before .before .before .before .before .before .before .rule-count .result) (c .first-pair .result) (record { low = c .before .before .before .before .before .before .before .before .before .before .before .before .before .before .before .before .before .before .sized-arg5 .given .0; high = c .before .before .before .before .before .before .before .before .before .before .before .before .before .before .before .before .before .sized-arg6 .given .0; operand = c .before .before .before .before .before .before .before .before .before .before .before .before .before .before .before .before .before .before .before .before .before .before .sized-arg .given .0; modulus = c .before .before .before .before .before .before .before .before .before .before .before .before .before .before .before .before .before .before .before .before .before .sized-arg2 .given .0; negated = c .before .before .before .before .before .before .before .before .before .before .before .before .before .before .before .before .before .before .before .before .sized-arg3 .given .0; ranges = c .before .before .before .before .before .before .before .before .before .before .before .before .before .before .before .before .before .before .before .sized-arg4 .given .0; relations = c .before .before .before .before .before .before .before .before .before .before .before .before .before .before .before .before .sized-arg7 .given .0; keyword = c .before .before .before .before .before .before .before .before .before .before .before .before .before .before .before .sized-arg8 .given .0; clauses = c .before .before .before .before .before .before .before .before .before .before .before .before .before .before .sized-arg9 .given .0 }) (c .before .before .before .before .before .before .before .before .before .before .before .before .rule-count .ensures) (c .first-pair .ensures)
+returns c =
+    let a = c .before .before .before .before .before .before .before .before .before .before .before .before .before .before .before .before .before .before .before .before .args in
+    let n = c .before .before .before .before .before .before .before .before .before .before .before .before .rule-count in
+    held-is (lent (a .low .now) (a .high .now) (a .columns .now) (a .relations .now) (a .keyword .now) (a .clauses .now) (a .count)) (n .result) (c .first-pair .result)
+    (record {
+      low = c .before .before .before .before .before .before .before .before .before .before .before .before .before .before .before .before .before .before .sized-arg2 .given .0;
+      high = c .before .before .before .before .before .before .before .before .before .before .before .before .before .before .before .before .before .sized-arg3 .given .0;
+      columns = c .before .before .before .before .before .before .before .before .before .before .before .before .before .before .before .before .before .before .before .sized-arg .given .0;
+      relations = c .before .before .before .before .before .before .before .before .before .before .before .before .before .before .before .before .sized-arg4 .given .0;
+      keyword = c .before .before .before .before .before .before .before .before .before .before .before .before .before .before .before .sized-arg5 .given .0;
+      clauses = c .before .before .before .before .before .before .before .before .before .before .before .before .before .before .sized-arg6 .given .0;
+    })
+    (n .ensures) (c .first-pair .ensures)
 
 pub check-spec : {M : Type 1} → statement M
 check-spec =

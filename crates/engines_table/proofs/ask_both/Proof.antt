@@ -14,7 +14,7 @@ check-requires-2 c κs = search needs
 returns : tie.Need-returns
 returns c =
     let a = c .before .before .args in
-    (engines-agree (lent (a .low .now) (a .high .now) (a .operand .now) (a .modulus .now) (a .negated .now) (a .ranges .now) (a .relations .now) (a .keyword .now) (a .clauses .now) (a .count)) (c .before .check .result) (c .check2 .result) (c .before .check .ensures) (c .check2 .ensures), c .check2 .ensures)
+    (engines-agree (lent (a .low .now) (a .high .now) (a .columns .now) (a .relations .now) (a .keyword .now) (a .clauses .now) (a .count)) (c .before .check .result) (c .check2 .result) (c .before .check .ensures) (c .check2 .ensures), c .check2 .ensures)
 
 pub ask-both-spec : {M : Type 1} → statement M
 ask-both-spec = tie.close (tie.spec check-requires check-requires-2 returns)

@@ -20,14 +20,14 @@ least-requires c κs =
 returns : tie.Need-returns
 returns c =
     let a = c .before .before .before .args in
-    let T = table (a .operand .now) (a .modulus .now) (a .negated .now) (a .ranges .now) (a .low .now) (a .high .now) in
+    let T = table (a .columns .now) (a .low .now) (a .high .now) in
     let e = sym (c .before .before .is-ready .ensures) ∙ c .before .if1 .taken in
     answer-ready T (a .s) (a .q) (a .lo) (a .hi) (c .least .result) e (ready-room (a .s) (a .q) (a .lo) (a .hi) e .0) (c .least .ensures)
 
 returns-2 : tie.Need-returns-2
 returns-2 c =
     let a = c .before .before .args in
-    let T = table (a .operand .now) (a .modulus .now) (a .negated .now) (a .ranges .now) (a .low .now) (a .high .now) in
+    let T = table (a .columns .now) (a .low .now) (a .high .now) in
     answer-not T (a .s) (a .q) (a .lo) (a .hi) (sym (c .before .is-ready .ensures) ∙ c .if1 .left)
 
 pub least-number-spec : {M : Type 1} → statement M

@@ -25,17 +25,15 @@ enum-known-read-2 c = search needs
 
 returns : tie.Need-returns
 returns c =
-    let a = c .before .before .before .before .before .before .before .before .before .before .before .before .before .before .before .before .before .before .before .before .before .before .before .before .before .args in
-    let p = c .before .before .before .before .before .before .before .before .before .before .before .before .before .before .read-pack in
-    let e = c .before .before .before .before .before .before .before .before .before .before .before .before .read .given .1 in
+    let p = c .before .before .before .before .before .before .before .before .before .before .before .read-pack in
+    let e = c .before .before .before .before .before .before .before .before .before .read .given .1 in
     c .checked-by .ensures ∙ ap checkedBy (c .before .check .ensures)
-    ∙ good (readPack (a .pack .now)) (p .result) _ _ (p .ensures .answer) e (rules-left (p .ensures) _ e)
+    ∙ good (readPack (c .before .before .before .before .before .before .before .before .before .before .before .before .before .before .before .before .before .before .before .args .pack .now)) (p .result) _ _ (p .ensures .answer) e (rules-left (p .ensures) _ e)
 
 returns-2 : tie.Need-returns-2
 returns-2 c =
-    let a = c .before .before .before .before .before .before .before .before .before .before .before .before .before .before .args in
     let p = c .before .before .before .read-pack in
-    bad (readPack (a .pack .now)) (p .result) _ (p .ensures .answer) (c .before .read2 .given .1)
+    bad (readPack (c .before .before .before .before .before .before .before .before .before .before .before .args .pack .now)) (p .result) _ (p .ensures .answer) (c .before .read2 .given .1)
 
 pub check-read-spec : {M : Type 1} → statement M
 check-read-spec =

@@ -25,19 +25,16 @@ first-pair-requires c κs = search needs
 
 returns : tie.Need-returns
 returns c =
-    let a = c .before .before .before .before .before .before .before .before .before .before .before .before .args in
+    let a = c .before .before .before .before .before .before .before .before .before .args in
     let n = c .before .rule-count in
-    held-by clauses-clash (lent (a .low .now) (a .high .now) (a .operand .now) (a .modulus .now) (a .negated .now) (a .ranges .now) (a .relations .now) (a .keyword .now) (a .clauses .now) (a .count)) (n .result) (c .first-pair .result)
+    held-by clauses-clash (lent (a .low .now) (a .high .now) (a .columns .now) (a .relations .now) (a .keyword .now) (a .clauses .now) (a .count)) (n .result) (c .first-pair .result)
     (record {
-      low = c .before .before .before .before .before .before .before .sized-arg5 .given .0;
-      high = c .before .before .before .before .before .before .sized-arg6 .given .0;
-      operand = c .before .before .before .before .before .before .before .before .before .before .before .sized-arg .given .0;
-      modulus = c .before .before .before .before .before .before .before .before .before .before .sized-arg2 .given .0;
-      negated = c .before .before .before .before .before .before .before .before .before .sized-arg3 .given .0;
-      ranges = c .before .before .before .before .before .before .before .before .sized-arg4 .given .0;
-      relations = c .before .before .before .before .before .sized-arg7 .given .0;
-      keyword = c .before .before .before .before .sized-arg8 .given .0;
-      clauses = c .before .before .before .sized-arg9 .given .0;
+      low = c .before .before .before .before .before .before .before .sized-arg2 .given .0;
+      high = c .before .before .before .before .before .before .sized-arg3 .given .0;
+      columns = c .before .before .before .before .before .before .before .before .sized-arg .given .0;
+      relations = c .before .before .before .before .before .sized-arg4 .given .0;
+      keyword = c .before .before .before .before .sized-arg5 .given .0;
+      clauses = c .before .before .before .sized-arg6 .given .0;
     })
     (n .ensures) (c .first-pair .ensures)
 

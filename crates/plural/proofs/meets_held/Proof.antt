@@ -18,7 +18,7 @@ returns c = search needs
 returns-2 : tie.Need-returns-2
 returns-2 c =
     let a = c .before .before .before .args in
-    past-none (table (a .operand .now) (a .modulus .now) (a .negated .now) (a .ranges .now) (a .low .now) (a .high .now)) (a .relations .now) (a .clauses .now) (a .x) (a .j)
+    past-none (table (a .columns .now) (a .low .now) (a .high .now)) (a .relations .now) (a .clauses .now) (a .x) (a .j)
     (omega (arith, c .before .room .ensures))
 
 pub meets-held-spec : {M : Type 1} → statement M

@@ -21,91 +21,88 @@ sized-requires c κs = search needs
 -- the pack that is lent, its arrays as long as they are declared; the mask is that of its rules met
 abbrev pack : (m : tie.After-met-mask) → Pack
 pack m =
-    let a = m .before .before .before .before .before .before .before .before .before .before .before .args in
-    lent (a .low .now) (a .high .now) (a .operand .now) (a .modulus .now) (a .negated .now) (a .ranges .now) (a .relations .now) (a .keyword .now) (a .clauses .now) (a .count)
+    let a = m .before .before .before .before .before .before .before .before .args in
+    lent (a .low .now) (a .high .now) (a .columns .now) (a .relations .now) (a .keyword .now) (a .clauses .now) (a .count)
 
 declared : (m : tie.After-met-mask) → Sized (pack m)
 declared m =
     record {
-      low = m .before .before .before .before .before .before .sized-arg5 .given .0;
-      high = m .before .before .before .before .before .sized-arg6 .given .0;
-      operand = m .before .before .before .before .before .before .before .before .before .before .sized-arg .given .0;
-      modulus = m .before .before .before .before .before .before .before .before .before .sized-arg2 .given .0;
-      negated = m .before .before .before .before .before .before .before .before .sized-arg3 .given .0;
-      ranges = m .before .before .before .before .before .before .before .sized-arg4 .given .0;
-      relations = m .before .before .before .before .sized-arg7 .given .0;
-      keyword = m .before .before .before .sized-arg8 .given .0;
-      clauses = m .before .before .sized-arg9 .given .0;
+      low = m .before .before .before .before .before .before .sized-arg2 .given .0;
+      high = m .before .before .before .before .before .sized-arg3 .given .0;
+      columns = m .before .before .before .before .before .before .before .sized-arg .given .0;
+      relations = m .before .before .before .before .sized-arg4 .given .0;
+      keyword = m .before .before .before .sized-arg5 .given .0;
+      clauses = m .before .before .sized-arg6 .given .0;
     }
 
-told : (m : tie.After-met-mask) → Met (pack m) (m .before .before .before .before .before .before .before .before .before .before .before .args .x) (m .met-mask .result)
-told m = met (pack m) (m .before .before .before .before .before .before .before .before .before .before .before .args .x) (m .met-mask .result) (declared m) (m .met-mask .ensures)
+told : (m : tie.After-met-mask) → Met (pack m) (m .before .before .before .before .before .before .before .before .args .x) (m .met-mask .result)
+told m = met (pack m) (m .before .before .before .before .before .before .before .before .args .x) (m .met-mask .result) (declared m) (m .met-mask .ensures)
 
 returns : tie.Need-returns
 returns c =
     let m = c .before in
-    let x = m .before .before .before .before .before .before .before .before .before .before .before .args .x in
+    let x = m .before .before .before .before .before .before .before .before .args .x in
     none-met (pack m) x (m .met-mask .result) (declared m) (told m) (c .if1 .taken)
 
 cast-keyword-at : tie.Need-cast-keyword-at
 cast-keyword-at c =
     let m = c .before .before in
-    let x = m .before .before .before .before .before .before .before .before .before .before .before .args .x in
+    let x = m .before .before .before .before .before .before .before .before .args .x in
     omega (arith, first-small (pack m) x (m .met-mask .result) (declared m) (told m) (omega (arith, c .if2 .taken)))
 
 keyword-at-requires : tie.Need-keyword-at-requires
 keyword-at-requires c κs =
     let m = c .before .before in
-    let x = m .before .before .before .before .before .before .before .before .before .before .before .args .x in
+    let x = m .before .before .before .before .before .before .before .before .args .x in
     first-small (pack m) x (m .met-mask .result) (declared m) (told m) (omega (arith, c .if2 .taken))
 
 returns-2 : tie.Need-returns-2
 returns-2 c =
     let m = c .before .before .before in
-    let x = m .before .before .before .before .before .before .before .before .before .before .before .args .x in
+    let x = m .before .before .before .before .before .before .before .before .args .x in
     ap Word (c .keyword-at .ensures) ∙ one-met (pack m) x (m .met-mask .result) (declared m) (told m) (c .before .if2 .taken)
 
 add-behind : tie.Need-add-behind
 add-behind c =
     let m = c .before .before in
-    let x = m .before .before .before .before .before .before .before .before .before .before .before .args .x in
+    let x = m .before .before .before .before .before .before .before .before .args .x in
     let none = c .before .if1 .left in
     omega (arith, first-small (pack m) x (m .met-mask .result) (declared m) (told m) (omega arith))
 
 shr-second : tie.Need-shr-second
 shr-second c =
     let m = c .before .before in
-    let x = m .before .before .before .before .before .before .before .before .before .before .before .args .x in
+    let x = m .before .before .before .before .before .before .before .before .args .x in
     let none = c .before .if1 .left in
     omega (arith, first-small (pack m) x (m .met-mask .result) (declared m) (told m) (omega arith))
 
 add-second : tie.Need-add-second
 add-second c =
     let m = c .before .before in
-    let x = m .before .before .before .before .before .before .before .before .before .before .before .args .x in
+    let x = m .before .before .before .before .before .before .before .before .args .x in
     let none = c .before .if1 .left in
     let one = c .if2 .left in
     omega (arith, first-small (pack m) x (m .met-mask .result) (declared m) (told m) (omega arith), second-small (pack m) x (m .met-mask .result) (declared m) (told m) (omega arith))
 
-cast-t42 : tie.Need-cast-t42
-cast-t42 c =
+cast-t33 : tie.Need-cast-t33
+cast-t33 c =
     let m = c .before .before in
-    let x = m .before .before .before .before .before .before .before .before .before .before .before .args .x in
+    let x = m .before .before .before .before .before .before .before .before .args .x in
     let none = c .before .if1 .left in
     omega (arith, first-small (pack m) x (m .met-mask .result) (declared m) (told m) (omega arith))
 
-add-t40 : tie.Need-add-t40
-add-t40 c =
+add-t31 : tie.Need-add-t31
+add-t31 c =
     let m = c .before .before in
-    let x = m .before .before .before .before .before .before .before .before .before .before .before .args .x in
+    let x = m .before .before .before .before .before .before .before .before .args .x in
     let none = c .before .if1 .left in
     let one = c .if2 .left in
     omega (arith, first-small (pack m) x (m .met-mask .result) (declared m) (told m) (omega arith), second-small (pack m) x (m .met-mask .result) (declared m) (told m) (omega arith))
 
-cast-t43 : tie.Need-cast-t43
-cast-t43 c =
+cast-t34 : tie.Need-cast-t34
+cast-t34 c =
     let m = c .before .before in
-    let x = m .before .before .before .before .before .before .before .before .before .before .before .args .x in
+    let x = m .before .before .before .before .before .before .before .before .args .x in
     let none = c .before .if1 .left in
     let one = c .if2 .left in
     omega (arith, first-small (pack m) x (m .met-mask .result) (declared m) (told m) (omega arith), second-small (pack m) x (m .met-mask .result) (declared m) (told m) (omega arith))
@@ -113,7 +110,7 @@ cast-t43 c =
 returns-3 : tie.Need-returns-3
 returns-3 c =
     let m = c .before .before in
-    let x = m .before .before .before .before .before .before .before .before .before .before .before .args .x in
+    let x = m .before .before .before .before .before .before .before .before .args .x in
     let none = c .before .if1 .left in
     let one = c .if2 .left in
     two-met (pack m) x (m .met-mask .result) (declared m) (told m) _ _ (omega arith) (omega arith) (omega arith)
@@ -131,7 +128,7 @@ select-held-spec =
     add-behind
     shr-second
     add-second
-    cast-t42
-    add-t40
-    cast-t43
+    cast-t33
+    add-t31
+    cast-t34
     returns-3)

@@ -1,9 +1,11 @@
 -- `profile::clause_profile`: one relation more at each turn.
-use mathlib.Core.Path.{_≡_, refl}
+use mathlib.Core.Path.{_≡_, refl, ap, _∙_}
+use mathlib.Core.List.{[], _∷_}
 use mathlib.Core.Logic.{_⊎_, inl, inr}
 use Prim.Native.Nat.{_-_, _≤_}
 use native.Mathlib.Omega.{arith}
-use Rattle.rules.specs.Stretch.{table, relationsIn}
+use Rattle.rules.specs.Stretch.{relationBy, table, relationsIn}
+use Rattle.rules.specs.declared.Single.{Single}
 use Rattle.clash_laws.specs.Profile.{profileOf}
 use Rattle.profile.proofs.Meeting.{met-none, met-more, met-all}
 use borrow.Author.Needs.{needs}
@@ -11,31 +13,39 @@ use Rattle.profile.proofs.clause_profile.Statement.{statement}
 use Rattle.profile.proofs.clause_profile.Tie as tie
 
 abbrev Inv-loop : tie.InvT-loop
-Inv-loop operand modulus negated ranges low high from to p₀ j₀ p j = (from ≤ j) × ((j ≤ to) ⊎ (j ≡ from)) × (p ≡ profileOf (relationsIn (table operand modulus negated ranges low high) from j))
+Inv-loop columns low high from to p₀ j₀ p j = (from ≤ j) × ((j ≤ to) ⊎ (j ≡ from)) × (p ≡ profileOf (relationsIn (table columns low high) from j))
 
 abbrev μ-loop : tie.MeasureT-loop
-μ-loop operand modulus negated ranges low high from to p₀ j₀ p j = to - j
+μ-loop columns low high from to p₀ j₀ p j = to - j
 
 any-digit-requires : tie.Need-any-digit-requires Inv-loop μ-loop
 any-digit-requires c κs = search needs
 
 loop-holds : tie.Need-loop-holds Inv-loop μ-loop
-loop-holds c = let a = c .before .args in let T = table (a .operand .now) (a .modulus .now) (a .negated .now) (a .ranges .now) (a .low .now) (a .high .now) in (omega arith, inr refl, met-none T (a .from) (a .from) _ refl (c .any-digit .ensures))
+loop-holds c = let a = c .before .args in let T = table (a .columns .now) (a .low .now) (a .high .now) in (omega arith, inr refl, met-none T (a .from) (a .from) _ refl (c .any-digit .ensures))
+
+single-at-requires : tie.Need-single-at-requires Inv-loop μ-loop
+single-at-requires c κs = omega (arith, c .before .before .before .pre, c .loop-test .taken)
 
 relation-profile-requires : tie.Need-relation-profile-requires Inv-loop μ-loop
-relation-profile-requires c κs = omega (arith, c .before .before .before .pre, c .loop-test .taken)
+relation-profile-requires c κs = c .single-at .ensures .1
 
 add-j : tie.Need-add-j Inv-loop μ-loop
 add-j c = search needs
 
 loop-less : tie.Need-loop-less Inv-loop μ-loop
-loop-less c = omega (arith, c .before .loop-test .taken)
+loop-less c = omega (arith, c .before .before .loop-test .taken)
 
 loop-again : tie.Need-loop-again Inv-loop μ-loop
-loop-again c = let a = c .before .before .before .before .args in let T = table (a .operand .now) (a .modulus .now) (a .negated .now) (a .ranges .now) (a .low .now) (a .high .now) in let l = c .before .before .loop in (omega (arith, l .inv .0), inl (omega (arith, c .before .loop-test .taken)), met-more T (a .from) (l .j) (l .p) (c .relation-profile .result) _ (l .inv .0) (l .inv .2) (c .relation-profile .ensures) refl)
+loop-again c =
+    let a = c .before .before .before .before .before .args in
+    let T = table (a .columns .now) (a .low .now) (a .high .now) in
+    let l = c .before .before .before .loop in
+    let r = c .relation-profile in
+    (omega (arith, l .inv .0), inl (omega (arith, c .before .before .loop-test .taken)), met-more T (a .from) (l .j) (l .p) (r .result) _ (l .inv .0) (l .inv .2) (r .ensures ∙ ap (λ (s : Single). profileOf (relationBy (a .low .now) (a .high .now) s ∷ [])) (c .before .single-at .ensures .0)) refl)
 
 returns : tie.Need-returns Inv-loop μ-loop
-returns c = let a = c .before .before .before .args in let T = table (a .operand .now) (a .modulus .now) (a .negated .now) (a .ranges .now) (a .low .now) (a .high .now) in let l = c .before .loop in met-all T (a .from) (a .to) (l .j) (l .p) (l .inv .0) (c .loop-test .left) (l .inv .1) (l .inv .2)
+returns c = let a = c .before .before .before .args in let T = table (a .columns .now) (a .low .now) (a .high .now) in let l = c .before .loop in met-all T (a .from) (a .to) (l .j) (l .p) (l .inv .0) (c .loop-test .left) (l .inv .1) (l .inv .2)
 
 pub clause-profile-spec : {M : Type 1} → statement M
 clause-profile-spec =
@@ -45,6 +55,7 @@ clause-profile-spec =
     μ-loop
     any-digit-requires
     loop-holds
+    single-at-requires
     relation-profile-requires
     add-j
     loop-less

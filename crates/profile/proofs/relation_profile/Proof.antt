@@ -1,5 +1,5 @@
 -- `profile::relation_profile`: letter by letter.
-use Rattle.rules.specs.Stretch.{table, relationAt}
+use Rattle.rules.specs.Stretch.{relationBy}
 use mathlib.Core.Path.{refl, ap, _∙_}
 use Prim.Native.Nat.{ℕ, _+_}
 use native.Mathlib.Omega.{arith}
@@ -10,26 +10,20 @@ use borrow.Author.Needs.{needs}
 use Rattle.profile.proofs.relation_profile.Statement.{statement}
 use Rattle.profile.proofs.relation_profile.Tie as tie
 
-element-copy-out-o : tie.Need-element-copy-out-o
-element-copy-out-o c = search needs
-
 digits-of-requires : tie.Need-digits-of-requires
 digits-of-requires c κs = search needs
 
-element-copy-out-if2 : tie.Need-element-copy-out-if2
-element-copy-out-if2 c = search needs
-
 pack-parts-requires : tie.Need-pack-parts-requires
-pack-parts-requires c κs = (omega arith, omega arith, omega arith, omega arith, c .before .before .digits-of .ensures .1, omega arith)
+pack-parts-requires c κs = (omega arith, omega arith, omega arith, omega arith, c .before .digits-of .ensures .1, omega arith)
 
 returns : tie.Need-returns
-returns c = let a = c .before .before .before .before .before .before .args in let T = table (a .operand .now) (a .modulus .now) (a .negated .now) (a .ranges .now) (a .low .now) (a .high .now) in let r = relationAt T (a .j) in c .pack-parts .ensures ∙ by-not-n r _ (search needs) (c .before .if2 .taken) (c .before .before .before .digits-of .ensures .0)
+returns c = let a = c .before .before .before .before .args in let r = relationBy (a .low .now) (a .high .now) (a .s) in c .pack-parts .ensures ∙ by-not-n r _ (search needs) (c .before .if2 .taken) (c .before .before .digits-of .ensures .0)
 
 pack-parts-requires-2 : tie.Need-pack-parts-requires-2
-pack-parts-requires-2 c κs = (omega arith, omega arith, omega arith, omega arith, c .before .before .digits-of .ensures .1, omega arith)
+pack-parts-requires-2 c κs = (omega arith, omega arith, omega arith, omega arith, c .before .digits-of .ensures .1, omega arith)
 
 returns-2 : tie.Need-returns-2
-returns-2 c = let a = c .before .before .before .before .before .before .args in let T = table (a .operand .now) (a .modulus .now) (a .negated .now) (a .ranges .now) (a .low .now) (a .high .now) in let r = relationAt T (a .j) in c .pack-parts2 .ensures ∙ by-n r _ (search needs) (c .before .if2 .left) (c .before .before .before .digits-of .ensures .0)
+returns-2 c = let a = c .before .before .before .before .args in let r = relationBy (a .low .now) (a .high .now) (a .s) in c .pack-parts2 .ensures ∙ by-n r _ (search needs) (c .before .if2 .left) (c .before .before .digits-of .ensures .0)
 
 digits-of-requires-2 : tie.Need-digits-of-requires-2
 digits-of-requires-2 c κs = search needs
@@ -38,7 +32,7 @@ pack-parts-requires-3 : tie.Need-pack-parts-requires-3
 pack-parts-requires-3 c κs = let d = c .digits-of2 .ensures .1 in (omega arith, omega arith, omega arith, omega arith, d, d)
 
 returns-3 : tie.Need-returns-3
-returns-3 c = let a = c .before .before .before .before .before .args in let T = table (a .operand .now) (a .modulus .now) (a .negated .now) (a .ranges .now) (a .low .now) (a .high .now) in let r = relationAt T (a .j) in c .pack-parts3 .ensures ∙ by-i r _ (search needs) (c .before .digits-of2 .ensures .0)
+returns-3 c = let a = c .before .before .before .before .args in let r = relationBy (a .low .now) (a .high .now) (a .s) in c .pack-parts3 .ensures ∙ by-i r _ (search needs) (c .before .digits-of2 .ensures .0)
 
 zero-of-requires : tie.Need-zero-of-requires
 zero-of-requires c κs = search needs
@@ -50,7 +44,7 @@ any-digit-requires : tie.Need-any-digit-requires
 any-digit-requires c κs = let z = c .zero-of .ensures .1 in (omega arith, omega arith, omega arith, omega arith)
 
 returns-4 : tie.Need-returns-4
-returns-4 c = let a = c .before .before .before .before .before .before .args in let T = table (a .operand .now) (a .modulus .now) (a .negated .now) (a .ranges .now) (a .low .now) (a .high .now) in let r = relationAt T (a .j) in c .any-digit .ensures ∙ ap (λ (z : ℕ). packed 32767 1023 1023 (z + 2) 1023 1023) (c .before .zero-of .ensures .0) ∙ by-f r (test r 0) (search needs) refl
+returns-4 c = let a = c .before .before .before .before .before .args in let r = relationBy (a .low .now) (a .high .now) (a .s) in c .any-digit .ensures ∙ ap (λ (z : ℕ). packed 32767 1023 1023 (z + 2) 1023 1023) (c .before .zero-of .ensures .0) ∙ by-f r (test r 0) (search needs) refl
 
 zero-of-requires-2 : tie.Need-zero-of-requires-2
 zero-of-requires-2 c κs = search needs
@@ -62,7 +56,7 @@ any-digit-requires-2 : tie.Need-any-digit-requires-2
 any-digit-requires-2 c κs = let z = c .zero-of2 .ensures .1 in (omega arith, omega arith, omega arith, omega arith)
 
 returns-5 : tie.Need-returns-5
-returns-5 c = let a = c .before .before .before .before .before .before .before .args in let T = table (a .operand .now) (a .modulus .now) (a .negated .now) (a .ranges .now) (a .low .now) (a .high .now) in let r = relationAt T (a .j) in c .any-digit2 .ensures ∙ ap (λ (z : ℕ). packed 32767 1023 1023 (z + 6) 1023 1023) (c .before .zero-of2 .ensures .0) ∙ by-t r (test r 0) (search needs) refl
+returns-5 c = let a = c .before .before .before .before .before .before .args in let r = relationBy (a .low .now) (a .high .now) (a .s) in c .any-digit2 .ensures ∙ ap (λ (z : ℕ). packed 32767 1023 1023 (z + 6) 1023 1023) (c .before .zero-of2 .ensures .0) ∙ by-t r (test r 0) (search needs) refl
 
 places-of-requires : tie.Need-places-of-requires
 places-of-requires c κs = search needs
@@ -71,7 +65,7 @@ any-digit-requires-3 : tie.Need-any-digit-requires-3
 any-digit-requires-3 c κs = let z = c .places-of .ensures .1 in (omega arith, omega arith, omega arith, omega arith)
 
 returns-6 : tie.Need-returns-6
-returns-6 c = let a = c .before .before .before .before .before .before .before .before .args in let T = table (a .operand .now) (a .modulus .now) (a .negated .now) (a .ranges .now) (a .low .now) (a .high .now) in let r = relationAt T (a .j) in c .any-digit3 .ensures ∙ by-v r (c .before .places-of .result) (search needs) (c .before .places-of .ensures .0)
+returns-6 c = let a = c .before .before .before .before .before .before .before .args in let r = relationBy (a .low .now) (a .high .now) (a .s) in c .any-digit3 .ensures ∙ by-v r (c .before .places-of .result) (search needs) (c .before .places-of .ensures .0)
 
 places-of-requires-2 : tie.Need-places-of-requires-2
 places-of-requires-2 c κs = search needs
@@ -80,7 +74,7 @@ any-digit-requires-4 : tie.Need-any-digit-requires-4
 any-digit-requires-4 c κs = let z = c .places-of2 .ensures .1 in (omega arith, omega arith, omega arith, omega arith)
 
 returns-7 : tie.Need-returns-7
-returns-7 c = let a = c .before .before .before .before .before .before .before .before .before .args in let T = table (a .operand .now) (a .modulus .now) (a .negated .now) (a .ranges .now) (a .low .now) (a .high .now) in let r = relationAt T (a .j) in c .any-digit4 .ensures ∙ by-w r (c .before .places-of2 .result) (search needs) (c .before .places-of2 .ensures .0)
+returns-7 c = let a = c .before .before .before .before .before .before .before .before .args in let r = relationBy (a .low .now) (a .high .now) (a .s) in c .any-digit4 .ensures ∙ by-w r (c .before .places-of2 .result) (search needs) (c .before .places-of2 .ensures .0)
 
 exponents-of-requires : tie.Need-exponents-of-requires
 exponents-of-requires c κs = search needs
@@ -89,15 +83,13 @@ any-digit-requires-5 : tie.Need-any-digit-requires-5
 any-digit-requires-5 c κs = let z = c .exponents-of .ensures .1 in (omega arith, omega arith, omega arith, omega arith)
 
 returns-8 : tie.Need-returns-8
-returns-8 c = let a = c .before .before .before .before .before .before .before .before .before .args in let T = table (a .operand .now) (a .modulus .now) (a .negated .now) (a .ranges .now) (a .low .now) (a .high .now) in let r = relationAt T (a .j) in c .any-digit5 .ensures ∙ by-e r (c .before .exponents-of .result) (search needs) (search needs) (search needs) (search needs) (search needs) (search needs) (c .before .exponents-of .ensures .0)
+returns-8 c = let a = c .before .before .before .before .before .before .before .before .args in let r = relationBy (a .low .now) (a .high .now) (a .s) in c .any-digit5 .ensures ∙ by-e r (c .before .exponents-of .result) (search needs) (search needs) (search needs) (search needs) (search needs) (search needs) (c .before .exponents-of .ensures .0)
 
 pub relation-profile-spec : {M : Type 1} → statement M
 relation-profile-spec =
     tie.close
     (tie.spec
-    element-copy-out-o
     digits-of-requires
-    element-copy-out-if2
     pack-parts-requires
     returns
     pack-parts-requires-2

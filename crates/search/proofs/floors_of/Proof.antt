@@ -21,7 +21,7 @@ alone-of-requires c κs = (c .before .before .pre .0, c .before .before .pre .1,
 returns : tie.Need-returns
 returns c =
     let a = c .before .before .before .args in
-    let T = table (a .operand .now) (a .modulus .now) (a .negated .now) (a .ranges .now) (a .low .now) (a .high .now) in
+    let T = table (a .columns .now) (a .low .now) (a .high .now) in
     let d = joinedIn T (a .s) in
     let w = c .before .before .integer-of in
     let p = c .before .integer-of2 in

@@ -20,12 +20,12 @@ clause-spot-requires : tie.Need-clause-spot-requires
 clause-spot-requires c κs =
     let a = c .before .before .args in
     let p = c .before .before .pre in
-    let T = table (a .operand .now) (a .modulus .now) (a .negated .now) (a .ranges .now) (a .low .now) (a .high .now) in
+    let T = table (a .columns .now) (a .low .now) (a .high .now) in
     let x = joinedIn T (a .s) in
     ((p .0, p .1, subst (Under x) (sym (c .raise .ensures)) (raised-under x (a .p) (a .l) (p .2) (p .3))), c .before .within .ensures x (p .2))
 
 returns : tie.Need-returns
-returns c = let a = c .before .before .before .args in let T = table (a .operand .now) (a .modulus .now) (a .negated .now) (a .ranges .now) (a .low .now) (a .high .now) in (bounded-least (a .b) (joinedIn T (a .s)) (spotRank (c .clause-spot .result)) (c .clause-spot .ensures .0), c .clause-spot .ensures .1)
+returns c = let a = c .before .before .before .args in let T = table (a .columns .now) (a .low .now) (a .high .now) in (bounded-least (a .b) (joinedIn T (a .s)) (spotRank (c .clause-spot .result)) (c .clause-spot .ensures .0), c .clause-spot .ensures .1)
 
 pub least-admitted-spec : {M : Type 1} → statement M
 least-admitted-spec = tie.close (tie.spec within-requires raise-requires clause-spot-requires returns)

@@ -27,21 +27,21 @@ enum-known-read-2 c = search needs
 
 returns : tie.Need-returns
 returns c =
-    let a = c .before .before .before .before .before .before .before .before .before .before .before .before .before .before .before .before .before .before .before .before .before .before .before .before .before .before .before .args in
-    let p = c .before .before .before .before .before .before .before .before .before .before .before .before .before .before .before .before .read-pack in
-    let e = c .before .before .before .before .before .before .before .before .before .before .before .before .before .before .read .given .1 in
-    c .select-held .ensures ∙ word (readPack (a .pack .now)) (p .result) _ _ _ (a .reading) (p .ensures .answer) e (rules-left (p .ensures) _ e) (c .before .before .before .before .before .before .before .before .before .before .before .reading .given .1)
+    let a = c .before .before .before .before .before .before .before .before .before .before .before .before .before .before .before .before .before .before .before .before .before .args in
+    let p = c .before .before .before .before .before .before .before .before .before .before .before .before .before .read-pack in
+    let e = c .before .before .before .before .before .before .before .before .before .before .before .read .given .1 in
+    c .select-held .ensures ∙ word (readPack (a .pack .now)) (p .result) _ _ _ (a .reading) (p .ensures .answer) e (rules-left (p .ensures) _ e) (c .before .before .before .before .before .before .before .before .reading .given .1)
 
 returns-2 : tie.Need-returns-2
 returns-2 c =
-    let a = c .before .before .before .before .before .before .before .before .before .before .before .before .before .before .before .before .before .args in
+    let a = c .before .before .before .before .before .before .before .before .before .before .before .before .before .before .args in
     let p = c .before .before .before .before .before .before .read-pack in
     let e = c .before .before .before .before .read .given .1 in
     unread (readPack (a .pack .now)) (p .result) _ _ _ (a .reading) (p .ensures .answer) e (rules-left (p .ensures) _ e) (c .before .reading2 .given .1)
 
 returns-3 : tie.Need-returns-3
 returns-3 c =
-    let a = c .before .before .before .before .before .before .before .before .before .before .before .before .before .before .args in
+    let a = c .before .before .before .before .before .before .before .before .before .before .before .args in
     let p = c .before .before .before .read-pack in
     bad (readPack (a .pack .now)) (p .result) _ (a .reading) (p .ensures .answer) (c .before .read2 .given .1)
 

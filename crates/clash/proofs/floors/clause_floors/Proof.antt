@@ -18,7 +18,7 @@ is-long-requires c κs = omega (arith, c .relations-stop .ensures)
 returns : tie.Need-returns
 returns c =
     let a = c .before .before .before .before .args in
-    let T = table (a .operand .now) (a .modulus .now) (a .negated .now) (a .ranges .now) (a .low .now) (a .high .now) in
+    let T = table (a .columns .now) (a .low .now) (a .high .now) in
     under-none (clauseAt T (a .relations .now) (a .j))
 
 floors-of-requires : tie.Need-floors-of-requires
@@ -27,7 +27,7 @@ floors-of-requires c κs = (omega (arith, c .before .before .relations-stop .ens
 returns-2 : tie.Need-returns-2
 returns-2 c =
     let a = c .before .before .before .before .before .args in
-    let T = table (a .operand .now) (a .modulus .now) (a .negated .now) (a .ranges .now) (a .low .now) (a .high .now) in
+    let T = table (a .columns .now) (a .low .now) (a .high .now) in
     let from = c .before .before .before .before .relations-start in
     let to = c .before .before .before .relations-stop in
     under-one T (a .relations .now) (c .floors-of .result) (from .result) (to .result) (a .j) (from .ensures) (to .ensures) (c .floors-of .ensures .0)

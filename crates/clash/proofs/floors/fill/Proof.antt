@@ -9,11 +9,11 @@ use Rattle.clash.proofs.floors.fill.Statement.{statement}
 use Rattle.clash.proofs.floors.fill.Tie as tie
 
 abbrev Inv-loop : tie.InvT-loop
-Inv-loop operand modulus negated ranges low high relations whole₀ part₀ tail₀ to j₀ whole part tail j =
-    (to ≤ 40) × Floored (table operand modulus negated ranges low high) relations whole part tail
+Inv-loop columns low high relations whole₀ part₀ tail₀ to j₀ whole part tail j =
+    (to ≤ 40) × Floored (table columns low high) relations whole part tail
 
 abbrev μ-loop : tie.MeasureT-loop
-μ-loop operand modulus negated ranges low high relations whole₀ part₀ tail₀ to j₀ whole part tail j = to - j
+μ-loop columns low high relations whole₀ part₀ tail₀ to j₀ whole part tail j = to - j
 
 loop-holds : tie.Need-loop-holds Inv-loop μ-loop
 loop-holds c = c .pre
@@ -49,7 +49,7 @@ loop-again : tie.Need-loop-again Inv-loop μ-loop
 loop-again c =
     let l = c .before .before in
     let a = l .before .args in
-    let T = table (a .operand .now) (a .modulus .now) (a .negated .now) (a .ranges .now) (a .low .now) (a .high .now) in
+    let T = table (a .columns .now) (a .low .now) (a .high .now) in
     (l .loop .inv .0, floored-set T (a .relations .now) (l .loop .whole) (l .loop .part) (l .loop .tail) (c .clause-floors .result) (l .loop .j) (l .loop .inv .1) (c .clause-floors .ensures))
 
 returns : tie.Need-returns Inv-loop μ-loop

@@ -11,11 +11,11 @@ use Rattle.clash.proofs.joined.both_spot.Statement.{statement}
 use Rattle.clash.proofs.joined.both_spot.Tie as tie
 
 abbrev Inv-loop : tie.InvT-loop
-Inv-loop operand modulus negated ranges low high relations whole part tail profiles from to start stop best₀ k₀ best k =
-    (min (spotRank best) (fastRank (bothOf (clausesIn (table operand modulus negated ranges low high) relations k to) (clausesIn (table operand modulus negated ranges low high) relations start stop))) ≡ fastRank (bothOf (clausesIn (table operand modulus negated ranges low high) relations from to) (clausesIn (table operand modulus negated ranges low high) relations start stop))) × Proper best
+Inv-loop columns low high relations whole part tail profiles from to start stop best₀ k₀ best k =
+    (min (spotRank best) (fastRank (bothOf (clausesIn (table columns low high) relations k to) (clausesIn (table columns low high) relations start stop))) ≡ fastRank (bothOf (clausesIn (table columns low high) relations from to) (clausesIn (table columns low high) relations start stop))) × Proper best
 
 abbrev μ-loop : tie.MeasureT-loop
-μ-loop operand modulus negated ranges low high relations whole part tail profiles from to start stop best₀ k₀ best k = to - k
+μ-loop columns low high relations whole part tail profiles from to start stop best₀ k₀ best k = to - k
 
 nowhere-requires : tie.Need-nowhere-requires Inv-loop μ-loop
 nowhere-requires c κs = search needs
@@ -23,7 +23,7 @@ nowhere-requires c κs = search needs
 loop-holds : tie.Need-loop-holds Inv-loop μ-loop
 loop-holds c =
     let a = c .before .args in
-    let T = table (a .operand .now) (a .modulus .now) (a .negated .now) (a .ranges .now) (a .low .now) (a .high .now) in
+    let T = table (a .columns .now) (a .low .now) (a .high .now) in
     (both-start T (a .relations .now) (a .to) (a .start) (a .stop) (spotRank (c .nowhere .result)) (a .from) (c .nowhere .ensures .0), c .nowhere .ensures .1)
 
 with-each-requires : tie.Need-with-each-requires Inv-loop μ-loop
@@ -41,14 +41,14 @@ loop-again : tie.Need-loop-again Inv-loop μ-loop
 loop-again c =
     let l = c .before .before in
     let a = l .before .before .args in
-    let T = table (a .operand .now) (a .modulus .now) (a .negated .now) (a .ranges .now) (a .low .now) (a .high .now) in
+    let T = table (a .columns .now) (a .low .now) (a .high .now) in
     (both-more T (a .relations .now) (a .to) (a .start) (a .stop) (spotRank (l .loop .best)) (spotRank (c .with-each .result)) (l .loop .k) (fastRank (bothOf (clausesIn T (a .relations .now) (a .from) (a .to)) (clausesIn T (a .relations .now) (a .start) (a .stop)))) (search needs) (c .with-each .ensures .0) (l .loop .inv .0), c .with-each .ensures .1)
 
 returns : tie.Need-returns Inv-loop μ-loop
 returns c =
     let l = c .before in
     let a = l .before .before .args in
-    let T = table (a .operand .now) (a .modulus .now) (a .negated .now) (a .ranges .now) (a .low .now) (a .high .now) in
+    let T = table (a .columns .now) (a .low .now) (a .high .now) in
     (both-end T (a .relations .now) (a .to) (a .start) (a .stop) (spotRank (l .loop .best)) (l .loop .k) (fastRank (bothOf (clausesIn T (a .relations .now) (a .from) (a .to)) (clausesIn T (a .relations .now) (a .start) (a .stop)))) (search needs) (l .loop .inv .1 .ranked) (l .loop .inv .0), l .loop .inv .1)
 
 pub both-spot-spec : {M : Type 1} → statement M

@@ -25,8 +25,8 @@ relations-start-requires-2 c κs = search needs
 relations-stop-requires-2 : tie.Need-relations-stop-requires-2
 relations-stop-requires-2 c κs = search needs
 
-cast-t23 : tie.Need-cast-t23
-cast-t23 c = search needs
+cast-t20 : tie.Need-cast-t20
+cast-t20 c = search needs
 
 mul-p : tie.Need-mul-p
 mul-p c = search needs
@@ -44,10 +44,10 @@ pair-floors-requires : tie.Need-pair-floors-requires
 pair-floors-requires c κs = search needs
 
 least-admitted-requires : tie.Need-least-admitted-requires
-least-admitted-requires c κs = let a = c .before .before .before .before .before .before .before .args in let T = table (a .operand .now) (a .modulus .now) (a .negated .now) (a .ranges .now) (a .low .now) (a .high .now) in let from = c .before .before .before .before .before .before .relations-start in let to = c .before .before .before .before .before .relations-stop in let start = c .before .before .before .before .relations-start2 in let stop = c .before .before .before .relations-stop2 in let l = c .pair-floors in (omega (arith, to .ensures), omega (arith, stop .ensures), profile-pair T (a .relations .now) (from .result) (to .result) (start .result) (stop .result) (a .k) (a .l) (getD (a .profiles .now) (a .k) 0) (getD (a .profiles .now) (a .l) 0) _ (from .ensures) (to .ensures) (start .ensures) (stop .ensures) (c .before .before .before .before .before .before .before .pre .1 .0) (c .before .before .before .before .before .before .before .pre .1 .1) (search needs), under-pair T (a .relations .now) (a .whole .now) (a .part .now) (a .tail .now) (l .result) (from .result) (to .result) (start .result) (stop .result) (a .k) (a .l) (from .ensures) (to .ensures) (start .ensures) (stop .ensures) (c .before .before .before .before .before .before .before .pre .0 .2) (c .before .before .before .before .before .before .before .pre .0 .0) (c .before .before .before .before .before .before .before .pre .0 .1) (l .ensures .0) (l .ensures .1) (l .ensures .2))
+least-admitted-requires c κs = let a = c .before .before .before .before .before .before .before .args in let T = table (a .columns .now) (a .low .now) (a .high .now) in let from = c .before .before .before .before .before .before .relations-start in let to = c .before .before .before .before .before .relations-stop in let start = c .before .before .before .before .relations-start2 in let stop = c .before .before .before .relations-stop2 in let l = c .pair-floors in (omega (arith, to .ensures), omega (arith, stop .ensures), profile-pair T (a .relations .now) (from .result) (to .result) (start .result) (stop .result) (a .k) (a .l) (getD (a .profiles .now) (a .k) 0) (getD (a .profiles .now) (a .l) 0) _ (from .ensures) (to .ensures) (start .ensures) (stop .ensures) (c .before .before .before .before .before .before .before .pre .1 .0) (c .before .before .before .before .before .before .before .pre .1 .1) (search needs), under-pair T (a .relations .now) (a .whole .now) (a .part .now) (a .tail .now) (l .result) (from .result) (to .result) (start .result) (stop .result) (a .k) (a .l) (from .ensures) (to .ensures) (start .ensures) (stop .ensures) (c .before .before .before .before .before .before .before .pre .0 .2) (c .before .before .before .before .before .before .before .pre .0 .0) (c .before .before .before .before .before .before .before .pre .0 .1) (l .ensures .0) (l .ensures .1) (l .ensures .2))
 
 returns : tie.Need-returns
-returns c = let a = c .before .before .before .before .before .before .before .before .args in let T = table (a .operand .now) (a .modulus .now) (a .negated .now) (a .ranges .now) (a .low .now) (a .high .now) in let from = c .before .before .before .before .before .before .before .relations-start in let to = c .before .before .before .before .before .before .relations-stop in let start = c .before .before .before .before .before .relations-start2 in let stop = c .before .before .before .before .relations-stop2 in (joined-is T (a .relations .now) _ (from .result) (to .result) (start .result) (stop .result) (a .k) (a .l) (from .ensures) (to .ensures) (start .ensures) (stop .ensures) (unbounded (record { least = record { 0 = 0 }; most = record { 0 = 9 } }) refl refl (relationsIn T (from .result) (to .result) ++ relationsIn T (start .result) (stop .result)) _ (c .least-admitted .ensures .0)), c .least-admitted .ensures .1)
+returns c = let a = c .before .before .before .before .before .before .before .before .args in let T = table (a .columns .now) (a .low .now) (a .high .now) in let from = c .before .before .before .before .before .before .before .relations-start in let to = c .before .before .before .before .before .before .relations-stop in let start = c .before .before .before .before .before .relations-start2 in let stop = c .before .before .before .before .relations-stop2 in (joined-is T (a .relations .now) _ (from .result) (to .result) (start .result) (stop .result) (a .k) (a .l) (from .ensures) (to .ensures) (start .ensures) (stop .ensures) (unbounded (record { least = record { 0 = 0 }; most = record { 0 = 9 } }) refl refl (relationsIn T (from .result) (to .result) ++ relationsIn T (start .result) (stop .result)) _ (c .least-admitted .ensures .0)), c .least-admitted .ensures .1)
 
 pub joined-spot-spec : {M : Type 1} → statement M
 joined-spot-spec =
@@ -57,7 +57,7 @@ joined-spot-spec =
     relations-stop-requires
     relations-start-requires-2
     relations-stop-requires-2
-    cast-t23
+    cast-t20
     mul-p
     element-copy-out-p
     mul-p-2

@@ -28,7 +28,7 @@ both-spot-requires c κs =
 returns : tie.Need-returns
 returns c =
     let a = c .before .before .before .before .before .args in
-    let T = table (a .operand .now) (a .modulus .now) (a .negated .now) (a .ranges .now) (a .low .now) (a .high .now) in (
+    let T = table (a .columns .now) (a .low .now) (a .high .now) in (
       pair-is T (a .relations .now) (a .clauses .now) _ (c .before .before .before .before .clauses-start .result) (c .before .before .before .clauses-stop .result) (c .before .before .clauses-start2 .result) (c .before .clauses-stop2 .result) (a .p) (a .q)
           (c .before .before .before .before .clauses-start .ensures) (c .before .before .before .clauses-stop .ensures) (c .before .before .clauses-start2 .ensures) (c .before .clauses-stop2 .ensures) (c .both-spot .ensures .0),
       c .both-spot .ensures .1,

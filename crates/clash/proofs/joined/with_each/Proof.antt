@@ -11,11 +11,11 @@ use Rattle.clash.proofs.joined.with_each.Statement.{statement}
 use Rattle.clash.proofs.joined.with_each.Tie as tie
 
 abbrev Inv-loop : tie.InvT-loop
-Inv-loop operand modulus negated ranges low high relations whole part tail profiles k from to best₀ l₀ best l =
-    (min (spotRank best) (fastRank (withEach (clauseAt (table operand modulus negated ranges low high) relations k) (clausesIn (table operand modulus negated ranges low high) relations l to))) ≡ min (spotRank best₀) (fastRank (withEach (clauseAt (table operand modulus negated ranges low high) relations k) (clausesIn (table operand modulus negated ranges low high) relations from to)))) × Proper best
+Inv-loop columns low high relations whole part tail profiles k from to best₀ l₀ best l =
+    (min (spotRank best) (fastRank (withEach (clauseAt (table columns low high) relations k) (clausesIn (table columns low high) relations l to))) ≡ min (spotRank best₀) (fastRank (withEach (clauseAt (table columns low high) relations k) (clausesIn (table columns low high) relations from to)))) × Proper best
 
 abbrev μ-loop : tie.MeasureT-loop
-μ-loop operand modulus negated ranges low high relations whole part tail profiles k from to best₀ l₀ best l = to - l
+μ-loop columns low high relations whole part tail profiles k from to best₀ l₀ best l = to - l
 
 loop-holds : tie.Need-loop-holds Inv-loop μ-loop
 loop-holds c = (refl, c .pre .0 .2)
@@ -38,14 +38,14 @@ loop-again : tie.Need-loop-again Inv-loop μ-loop
 loop-again c =
     let l = c .before .before .before in
     let a = l .before .args in
-    let T = table (a .operand .now) (a .modulus .now) (a .negated .now) (a .ranges .now) (a .low .now) (a .high .now) in
+    let T = table (a .columns .now) (a .low .now) (a .high .now) in
     (sym (each-more T (a .relations .now) (a .k) (a .to) (spotRank (l .loop .best)) (spotRank (c .before .joined-spot .result)) (spotRank (c .earlier .result)) (l .loop .l) (search needs) (c .before .joined-spot .ensures .0) (c .earlier .ensures .0)) ∙ l .loop .inv .0, c .earlier .ensures .1)
 
 returns : tie.Need-returns Inv-loop μ-loop
 returns c =
     let l = c .before in
     let a = l .before .args in
-    let T = table (a .operand .now) (a .modulus .now) (a .negated .now) (a .ranges .now) (a .low .now) (a .high .now) in
+    let T = table (a .columns .now) (a .low .now) (a .high .now) in
     (sym (each-end T (a .relations .now) (a .k) (a .to) (spotRank (l .loop .best)) (l .loop .l) (search needs) (l .loop .inv .1 .ranked)) ∙ l .loop .inv .0, l .loop .inv .1)
 
 pub with-each-spec : {M : Type 1} → statement M

@@ -10,13 +10,13 @@ use Rattle.clash.proofs.profiled.fill.Statement.{statement}
 use Rattle.clash.proofs.profiled.fill.Tie as tie
 
 abbrev Inv-loop : tie.InvT-loop
-Inv-loop operand modulus negated ranges low high relations profiles₀ to j₀ profiles j = (to ≤ 40) × (j ≤ to) × Profiled (table operand modulus negated ranges low high) relations profiles j
+Inv-loop columns low high relations profiles₀ to j₀ profiles j = (to ≤ 40) × (j ≤ to) × Profiled (table columns low high) relations profiles j
 
 abbrev μ-loop : tie.MeasureT-loop
-μ-loop operand modulus negated ranges low high relations profiles₀ to j₀ profiles j = to - j
+μ-loop columns low high relations profiles₀ to j₀ profiles j = to - j
 
 loop-holds : tie.Need-loop-holds Inv-loop μ-loop
-loop-holds c = let a = c .args in let T = table (a .operand .now) (a .modulus .now) (a .negated .now) (a .ranges .now) (a .low .now) (a .high .now) in (c .pre, omega arith, profiled-none T (a .relations .now) (a .profiles .now))
+loop-holds c = let a = c .args in let T = table (a .columns .now) (a .low .now) (a .high .now) in (c .pre, omega arith, profiled-none T (a .relations .now) (a .profiles .now))
 
 profile-of-requires : tie.Need-profile-of-requires Inv-loop μ-loop
 profile-of-requires c κs = omega (arith, c .before .loop .inv .0, c .loop-test .taken)
@@ -31,10 +31,10 @@ loop-less : tie.Need-loop-less Inv-loop μ-loop
 loop-less c = search needs
 
 loop-again : tie.Need-loop-again Inv-loop μ-loop
-loop-again c = let a = c .before .before .before .before .before .args in let T = table (a .operand .now) (a .modulus .now) (a .negated .now) (a .ranges .now) (a .low .now) (a .high .now) in (c .before .before .before .before .loop .inv .0, omega (arith, c .before .before .before .loop-test .taken), profiled-more T (a .relations .now) (c .before .before .before .before .loop .profiles) (c .put .last .0) (c .before .before .before .before .loop .j) (c .before .before .profile-of .result) (c .before .before .before .before .loop .inv .2) (c .before .before .profile-of .ensures) (c .put .ensures .0) (c .put .ensures .1))
+loop-again c = let a = c .before .before .before .before .before .args in let T = table (a .columns .now) (a .low .now) (a .high .now) in (c .before .before .before .before .loop .inv .0, omega (arith, c .before .before .before .loop-test .taken), profiled-more T (a .relations .now) (c .before .before .before .before .loop .profiles) (c .put .last .0) (c .before .before .before .before .loop .j) (c .before .before .profile-of .result) (c .before .before .before .before .loop .inv .2) (c .before .before .profile-of .ensures) (c .put .ensures .0) (c .put .ensures .1))
 
 returns : tie.Need-returns Inv-loop μ-loop
-returns c = let a = c .before .before .args in let T = table (a .operand .now) (a .modulus .now) (a .negated .now) (a .ranges .now) (a .low .now) (a .high .now) in subst (Profiled T (a .relations .now) (c .before .loop .profiles)) (let z : c .before .loop .j ≡ a .to = omega (arith, c .before .loop .inv .1, c .loop-test .left) in z) (c .before .loop .inv .2)
+returns c = let a = c .before .before .args in let T = table (a .columns .now) (a .low .now) (a .high .now) in subst (Profiled T (a .relations .now) (c .before .loop .profiles)) (let z : c .before .loop .j ≡ a .to = omega (arith, c .before .loop .inv .1, c .loop-test .left) in z) (c .before .loop .inv .2)
 
 pub fill-spec : {M : Type 1} → statement M
 fill-spec =

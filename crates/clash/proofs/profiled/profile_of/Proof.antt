@@ -16,7 +16,7 @@ clause-profile-requires : tie.Need-clause-profile-requires
 clause-profile-requires c κs = omega (arith, c .relations-stop .ensures)
 
 returns : tie.Need-returns
-returns c = let a = c .before .before .before .args in let T = table (a .operand .now) (a .modulus .now) (a .negated .now) (a .ranges .now) (a .low .now) (a .high .now) in profile-clause T (a .relations .now) (c .before .before .relations-start .result) (c .before .relations-stop .result) (a .j) _ (c .before .before .relations-start .ensures) (c .before .relations-stop .ensures) (c .clause-profile .ensures)
+returns c = let a = c .before .before .before .args in let T = table (a .columns .now) (a .low .now) (a .high .now) in profile-clause T (a .relations .now) (c .before .before .relations-start .result) (c .before .relations-stop .result) (a .j) _ (c .before .before .relations-start .ensures) (c .before .relations-stop .ensures) (c .clause-profile .ensures)
 
 pub profile-of-spec : {M : Type 1} → statement M
 profile-of-spec =

@@ -10,12 +10,12 @@ use Rattle.next_table.proofs.find.find.Statement.{statement}
 use Rattle.next_table.proofs.find.find.Tie as tie
 
 abbrev Inv-loop : tie.InvT-loop
-Inv-loop operand modulus negated ranges low high s q list count level starts ends at j from end says₀ stop₀ p₀ says stop p =
-    let c = joinedIn (table operand modulus negated ranges low high) s in
-    (from ≤ p) × NoneTo (own q c level) (below q c j) from p × Kept (table operand modulus negated ranges low high) s q level p says stop
+Inv-loop columns low high s q list count level starts ends at j from end says₀ stop₀ p₀ says stop p =
+    let c = joinedIn (table columns low high) s in
+    (from ≤ p) × NoneTo (own q c level) (below q c j) from p × Kept (table columns low high) s q level p says stop
 
 abbrev μ-loop : tie.MeasureT-loop
-μ-loop operand modulus negated ranges low high s q list count level starts ends at j from end says₀ stop₀ p₀ says stop p = end - p
+μ-loop columns low high s q list count level starts ends at j from end says₀ stop₀ p₀ says stop p = end - p
 
 loop-holds : tie.Need-loop-holds Inv-loop μ-loop
 loop-holds c = (omega arith, λ x a b. absurd (omega arith), c .pre .1 .1 .1)

@@ -27,7 +27,7 @@ returns : tie.Need-returns
 returns c =
     let a = c .before .before .before .before .before .before .args in
     let p = c .before .before .before .before .before .before .pre in
-    let T = table (a .operand .now) (a .modulus .now) (a .negated .now) (a .ranges .now) (a .low .now) (a .high .now) in
+    let T = table (a .columns .now) (a .low .now) (a .high .now) in
     (looked-on (c .before .before .if1 .taken) (c .before .before .before .clause-run .ensures .0) (c .before .next .ensures .1 (below (a .q) (joinedIn T (a .s))) (p .1 .1 .0)) (c .lesser .ensures) (p .0 .2), c .before .before .before .clause-run .ensures .1 .1)
 
 returns-2 : tie.Need-returns-2

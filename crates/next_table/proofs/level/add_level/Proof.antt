@@ -27,7 +27,7 @@ returns : tie.Need-returns
 returns c =
     let a = c .before .before .args in
     let p = c .before .before .pre in
-    let c′ = joinedIn (table (a .operand .now) (a .modulus .now) (a .negated .now) (a .ranges .now) (a .low .now) (a .high .now)) (a .s) in
+    let c′ = joinedIn (table (a .columns .now) (a .low .now) (a .high .now)) (a .s) in
     added-free (a .q) c′ (p .1 .1 .0) (p .1 .1 .1) (p .0 .4) (p .1 .0 (not-true _ (c .if1 .taken)))
 
 fill-level-requires : tie.Need-fill-level-requires
@@ -42,7 +42,7 @@ returns-3 : tie.Need-returns-3
 returns-3 c =
     let a = c .before .before .before .before .before .before .before .before .args in
     let p = c .before .before .before .before .before .before .before .before .pre in
-    let c′ = joinedIn (table (a .operand .now) (a .modulus .now) (a .negated .now) (a .ranges .now) (a .low .now) (a .high .now)) (a .s) in
+    let c′ = joinedIn (table (a .columns .now) (a .low .now) (a .high .now)) (a .s) in
     let f = c .before .before .fill-level in
     added-none (a .q) c′ (f .ensures .0) (f .ensures .1 .0) (p .0 .4) (f .result) (f .ensures .1 .1 (omega (arith, c .before .if2 .left))) (omega (arith, c .if3 .taken))
 
@@ -59,7 +59,7 @@ returns-4 : tie.Need-returns-4
 returns-4 c =
     let a = c .before .before .before .before .before .before .before .before .args in
     let p = c .before .before .before .before .before .before .before .before .pre in
-    let c′ = joinedIn (table (a .operand .now) (a .modulus .now) (a .negated .now) (a .ranges .now) (a .low .now) (a .high .now)) (a .s) in
+    let c′ = joinedIn (table (a .columns .now) (a .low .now) (a .high .now)) (a .s) in
     let f = c .before .before .fill-level in
     added-level (a .q) c′ (f .ensures .0) (f .ensures .1 .0) (p .0 .4) (f .result) (f .ensures .1 .1 (omega (arith, c .before .if2 .left))) (omega (arith, c .if3 .left)) (omega (arith, c .before .if2 .left))
 

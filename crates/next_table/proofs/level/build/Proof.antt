@@ -9,11 +9,11 @@ use Rattle.next_table.proofs.level.build.Statement.{statement}
 use Rattle.next_table.proofs.level.build.Tie as tie
 
 abbrev Inv-loop : tie.InvT-loop
-Inv-loop operand modulus negated ranges low high s q tiers asked starts₀ ends₀ at₀ m₀ j₀ starts ends at m j =
-    Building q (joinedIn (table operand modulus negated ranges low high) s) starts ends at j m
+Inv-loop columns low high s q tiers asked starts₀ ends₀ at₀ m₀ j₀ starts ends at m j =
+    Building q (joinedIn (table columns low high) s) starts ends at j m
 
 abbrev μ-loop : tie.MeasureT-loop
-μ-loop operand modulus negated ranges low high s q tiers asked starts₀ ends₀ at₀ m₀ j₀ starts ends at m j = 7 - j
+μ-loop columns low high s q tiers asked starts₀ ends₀ at₀ m₀ j₀ starts ends at m j = 7 - j
 
 loop-holds : tie.Need-loop-holds Inv-loop μ-loop
 loop-holds c = building-start (c .pre .1 .1)
@@ -36,7 +36,7 @@ enum-told-2 c = search needs
 returns : tie.Need-returns Inv-loop μ-loop
 returns c =
     let a = c .before .before .before .before .before .before .before .before .before .args in
-    let c′ = joinedIn (table (a .operand .now) (a .modulus .now) (a .negated .now) (a .ranges .now) (a .low .now) (a .high .now)) (a .s) in
+    let c′ = joinedIn (table (a .columns .now) (a .low .now) (a .high .now)) (a .s) in
     built-empty (a .q) c′ (c .before .before .before .before .before .before .before .before .loop .j) (c .before .before .add-level .ensures) (omega (arith, c .before .before .before .before .before .before .before .loop-test .taken)) (c .enum-told2 .given .1)
 
 enum-told-3 : tie.Need-enum-told-3 Inv-loop μ-loop

@@ -15,11 +15,11 @@ use Rattle.next_table.proofs.level.fill_level.Statement.{statement}
 use Rattle.next_table.proofs.level.fill_level.Tie as tie
 
 abbrev Inv-loop : tie.InvT-loop
-Inv-loop operand modulus negated ranges low high s q tiers starts₀ ends₀ at j m says₀ stop₀ list count n₀ p₀ starts ends says stop n p =
-    Filling (below q (joinedIn (table operand modulus negated ranges low high) s)) (own q (joinedIn (table operand modulus negated ranges low high) s) j) starts ends at j m n p × Kept (table operand modulus negated ranges low high) s q j p says stop
+Inv-loop columns low high s q tiers starts₀ ends₀ at j m says₀ stop₀ list count n₀ p₀ starts ends says stop n p =
+    Filling (below q (joinedIn (table columns low high) s)) (own q (joinedIn (table columns low high) s) j) starts ends at j m n p × Kept (table columns low high) s q j p says stop
 
 abbrev μ-loop : tie.MeasureT-loop
-μ-loop operand modulus negated ranges low high s q tiers starts₀ ends₀ at j m says₀ stop₀ list count n₀ p₀ starts ends says stop n p = m - p
+μ-loop columns low high s q tiers starts₀ ends₀ at j m says₀ stop₀ list count n₀ p₀ starts ends says stop n p = m - p
 
 size-of-requires : tie.Need-size-of-requires Inv-loop μ-loop
 size-of-requires c κs = (c .pre .0 .1, c .pre .0 .2)
@@ -34,10 +34,10 @@ element-copy-out-n : tie.Need-element-copy-out-n Inv-loop μ-loop
 element-copy-out-n c = search needs
 
 loop-holds : tie.Need-loop-holds Inv-loop μ-loop
-loop-holds c = let a = c .before .before .before .before .args in let T = table (a .operand .now) (a .modulus .now) (a .negated .now) (a .ranges .now) (a .low .now) (a .high .now) in let p = c .before .before .before .before .pre in (filling-start (a .m) (p .1 .0) (p .1 .1), kept-fresh T (a .s) (a .q) (a .j) 0)
+loop-holds c = let a = c .before .before .before .before .args in let T = table (a .columns .now) (a .low .now) (a .high .now) in let p = c .before .before .before .before .pre in (filling-start (a .m) (p .1 .0) (p .1 .1), kept-fresh T (a .s) (a .q) (a .j) 0)
 
 find-requires : tie.Need-find-requires Inv-loop μ-loop
-find-requires c κs = let a = c .before .before .before .before .before .before .before .before .before .before .before .args in let T = table (a .operand .now) (a .modulus .now) (a .negated .now) (a .ranges .now) (a .low .now) (a .high .now) in let p = c .before .before .before .before .before .before .before .before .before .before .before .pre in let i = c .before .before .before .before .before .before .loop .inv in ((p .0 .0, fit-room (a .q) (a .m) (p .0 .0) (omega (arith, level-small (a .j) (a .m) (p .0 .4) (p .0 .5))), i .0 .reach, p .0 .1, p .0 .2, p .0 .3, gathered-listed T (a .s) (a .q) (a .j) (a .tiers .now) (c .before .before .before .before .before .before .before .before .list-level .last .1 .1 .1 .0) (c .before .before .before .before .before .before .before .before .list-level .result) (c .before .before .before .before .before .before .before .before .before .before .size-of .result) (omega (arith, p .0 .4)) (p .0 .6) (c .before .before .before .before .before .before .before .before .before .before .size-of .ensures) (omega (arith, c .before .before .before .before .before .before .before .before .before .before .size-of .ensures, p .0 .3)) (c .before .before .before .before .before .before .before .before .list-level .ensures)), (i .0 .laid, (i .0 .tabled, i .1)))
+find-requires c κs = let a = c .before .before .before .before .before .before .before .before .before .before .before .args in let T = table (a .columns .now) (a .low .now) (a .high .now) in let p = c .before .before .before .before .before .before .before .before .before .before .before .pre in let i = c .before .before .before .before .before .before .loop .inv in ((p .0 .0, fit-room (a .q) (a .m) (p .0 .0) (omega (arith, level-small (a .j) (a .m) (p .0 .4) (p .0 .5))), i .0 .reach, p .0 .1, p .0 .2, p .0 .3, gathered-listed T (a .s) (a .q) (a .j) (a .tiers .now) (c .before .before .before .before .before .before .before .before .list-level .last .1 .1 .1 .0) (c .before .before .before .before .before .before .before .before .list-level .result) (c .before .before .before .before .before .before .before .before .before .before .size-of .result) (omega (arith, p .0 .4)) (p .0 .6) (c .before .before .before .before .before .before .before .before .before .before .size-of .ensures) (omega (arith, c .before .before .before .before .before .before .before .before .before .before .size-of .ensures, p .0 .3)) (c .before .before .before .before .before .before .before .before .list-level .ensures)), (i .0 .laid, (i .0 .tabled, i .1)))
 
 returns : tie.Need-returns Inv-loop μ-loop
 returns c = let p = c .before .before .before .before .before .before .before .before .before .before .before .before .before .before .pre in let i = c .before .before .before .before .before .before .before .before .before .loop .inv in (i .0 .laid, (i .0 .tabled, λ _. rw (p .0 .5) at (filling-done (i .0) (c .before .before .find .ensures .0) (c .if1 .taken))))
@@ -49,7 +49,7 @@ returns-2 : tie.Need-returns-2 Inv-loop μ-loop
 returns-2 c = let i = c .before .before .before .before .before .before .before .before .before .before .loop .inv in (i .0 .laid, (i .0 .tabled, λ h. absurd (omega arith)))
 
 cast-starts : tie.Need-cast-starts Inv-loop μ-loop
-cast-starts c = let a = c .before .before .before .before .before .before .before .before .before .before .before .before .before .before .before .before .args in let T = table (a .operand .now) (a .modulus .now) (a .negated .now) (a .ranges .now) (a .low .now) (a .high .now) in let p = c .before .before .before .before .before .before .before .before .before .before .before .before .before .before .before .before .pre in let i = c .before .before .before .before .before .before .before .before .before .before .before .loop .inv in let o = c .before .before .before .before .find .ensures .0 in omega (arith, level-small (a .j) (a .m) (p .0 .4) (p .0 .5), o .least .high, c .before .before .if1 .left)
+cast-starts c = let a = c .before .before .before .before .before .before .before .before .before .before .before .before .before .before .before .before .args in let T = table (a .columns .now) (a .low .now) (a .high .now) in let p = c .before .before .before .before .before .before .before .before .before .before .before .before .before .before .before .before .pre in let i = c .before .before .before .before .before .before .before .before .before .before .before .loop .inv in let o = c .before .before .before .before .find .ensures .0 in omega (arith, level-small (a .j) (a .m) (p .0 .4) (p .0 .5), o .least .high, c .before .before .if1 .left)
 
 mul-starts : tie.Need-mul-starts Inv-loop μ-loop
 mul-starts c = search needs
@@ -58,10 +58,10 @@ element-write-starts : tie.Need-element-write-starts Inv-loop μ-loop
 element-write-starts c = search needs
 
 sub-ends : tie.Need-sub-ends Inv-loop μ-loop
-sub-ends c = let a = c .before .before .before .before .before .before .before .before .before .before .before .before .before .before .before .before .before .args in let T = table (a .operand .now) (a .modulus .now) (a .negated .now) (a .ranges .now) (a .low .now) (a .high .now) in let p = c .before .before .before .before .before .before .before .before .before .before .before .before .before .before .before .before .before .pre in let i = c .before .before .before .before .before .before .before .before .before .before .before .before .loop .inv in let o = c .before .before .before .before .before .find .ensures .0 in omega (arith, o .some (omega (arith, c .before .before .before .if1 .left)))
+sub-ends c = let a = c .before .before .before .before .before .before .before .before .before .before .before .before .before .before .before .before .before .args in let T = table (a .columns .now) (a .low .now) (a .high .now) in let p = c .before .before .before .before .before .before .before .before .before .before .before .before .before .before .before .before .before .pre in let i = c .before .before .before .before .before .before .before .before .before .before .before .before .loop .inv in let o = c .before .before .before .before .before .find .ensures .0 in omega (arith, o .some (omega (arith, c .before .before .before .if1 .left)))
 
 cast-ends : tie.Need-cast-ends Inv-loop μ-loop
-cast-ends c = let a = c .before .before .before .before .before .before .before .before .before .before .before .before .before .before .before .before .before .args in let T = table (a .operand .now) (a .modulus .now) (a .negated .now) (a .ranges .now) (a .low .now) (a .high .now) in let p = c .before .before .before .before .before .before .before .before .before .before .before .before .before .before .before .before .before .pre in let i = c .before .before .before .before .before .before .before .before .before .before .before .before .loop .inv in let o = c .before .before .before .before .before .find .ensures .0 in omega (arith, level-small (a .j) (a .m) (p .0 .4) (p .0 .5), o .until (omega (arith, c .before .before .before .if1 .left)))
+cast-ends c = let a = c .before .before .before .before .before .before .before .before .before .before .before .before .before .before .before .before .before .args in let T = table (a .columns .now) (a .low .now) (a .high .now) in let p = c .before .before .before .before .before .before .before .before .before .before .before .before .before .before .before .before .before .pre in let i = c .before .before .before .before .before .before .before .before .before .before .before .before .loop .inv in let o = c .before .before .before .before .before .find .ensures .0 in omega (arith, level-small (a .j) (a .m) (p .0 .4) (p .0 .5), o .until (omega (arith, c .before .before .before .if1 .left)))
 
 mul-ends : tie.Need-mul-ends Inv-loop μ-loop
 mul-ends c = search needs
@@ -73,10 +73,10 @@ add-n : tie.Need-add-n Inv-loop μ-loop
 add-n c = search needs
 
 loop-less : tie.Need-loop-less Inv-loop μ-loop
-loop-less c = let a = c .before .before .before .before .before .before .before .before .before .before .before .before .before .before .before .before .before .args in let T = table (a .operand .now) (a .modulus .now) (a .negated .now) (a .ranges .now) (a .low .now) (a .high .now) in let p = c .before .before .before .before .before .before .before .before .before .before .before .before .before .before .before .before .before .pre in let i = c .before .before .before .before .before .before .before .before .before .before .before .before .loop .inv in let o = c .before .before .before .before .before .find .ensures .0 in omega (arith, o .least .low, o .some (omega (arith, c .before .before .before .if1 .left)), c .before .before .before .before .before .before .before .before .before .before .before .loop-test .taken)
+loop-less c = let a = c .before .before .before .before .before .before .before .before .before .before .before .before .before .before .before .before .before .args in let T = table (a .columns .now) (a .low .now) (a .high .now) in let p = c .before .before .before .before .before .before .before .before .before .before .before .before .before .before .before .before .before .pre in let i = c .before .before .before .before .before .before .before .before .before .before .before .before .loop .inv in let o = c .before .before .before .before .before .find .ensures .0 in omega (arith, o .least .low, o .some (omega (arith, c .before .before .before .if1 .left)), c .before .before .before .before .before .before .before .before .before .before .before .loop-test .taken)
 
 loop-again : tie.Need-loop-again Inv-loop μ-loop
-loop-again c = let a = c .before .before .before .before .before .before .before .before .before .before .before .before .before .before .before .before .before .args in let T = table (a .operand .now) (a .modulus .now) (a .negated .now) (a .ranges .now) (a .low .now) (a .high .now) in let p = c .before .before .before .before .before .before .before .before .before .before .before .before .before .before .before .before .before .pre in let i = c .before .before .before .before .before .before .before .before .before .before .before .before .loop .inv in let o = c .before .before .before .before .before .find .ensures .0 in (filling-more (i .0) o (level-small (a .j) (a .m) (p .0 .4) (p .0 .5)) (omega (arith, c .before .before .if2 .left)) (omega (arith, c .before .before .before .if1 .left)), c .before .before .before .before .before .find .ensures .1)
+loop-again c = let a = c .before .before .before .before .before .before .before .before .before .before .before .before .before .before .before .before .before .args in let T = table (a .columns .now) (a .low .now) (a .high .now) in let p = c .before .before .before .before .before .before .before .before .before .before .before .before .before .before .before .before .before .pre in let i = c .before .before .before .before .before .before .before .before .before .before .before .before .loop .inv in let o = c .before .before .before .before .before .find .ensures .0 in (filling-more (i .0) o (level-small (a .j) (a .m) (p .0 .4) (p .0 .5)) (omega (arith, c .before .before .if2 .left)) (omega (arith, c .before .before .before .if1 .left)), c .before .before .before .before .before .find .ensures .1)
 
 returns-3 : tie.Need-returns-3 Inv-loop μ-loop
 returns-3 c = let p = c .before .before .before .before .before .before .pre in let i = c .before .loop .inv in (i .0 .laid, (i .0 .tabled, λ _. rw (p .0 .5) at (filling-all (i .0) (omega (arith, c .loop-test .left)))))

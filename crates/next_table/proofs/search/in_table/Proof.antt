@@ -38,7 +38,7 @@ returns-2 : tie.Need-returns-2
 returns-2 c =
     let a = c .before .before .before .before .before .before .args in
     let p = c .before .before .before .before .before .before .pre in
-    let T = table (a .operand .now) (a .modulus .now) (a .negated .now) (a .ranges .now) (a .low .now) (a .high .now) in
+    let T = table (a .columns .now) (a .low .now) (a .high .now) in
     let c′ = joinedIn T (a .s) in
     least-empty (a .q) c′ (p .1 .0) (a .lo) (a .hi) (p .0 .2) (c .before .before .build .ensures .empty (c .enum-told2 .given .1))
 

@@ -16,7 +16,7 @@ first-requires c κs = omega (arith, c .pre .1 .self, c .pre .2)
 returns : tie.Need-returns
 returns c =
     let a = c .before .before .args in
-    let T = table (a .operand .now) (a .modulus .now) (a .negated .now) (a .ranges .now) (a .low .now) (a .high .now) in
+    let T = table (a .columns .now) (a .low .now) (a .high .now) in
     let c′ = joinedIn T (a .s) in
     let f = c .before .first in
     passed-end (passesAll (a .q) c′) (a .lo) (a .hi) (f .result) (passed-ends (a .q) c′ (a .lo) (f .result) (f .ensures .0) (f .ensures .2)) (c .before .before .pre .2) (omega (arith, c .if1 .taken))
@@ -30,7 +30,7 @@ passes-at-requires c κs =
 returns-2 : tie.Need-returns-2
 returns-2 c =
     let a = c .before .before .before .before .args in
-    let T = table (a .operand .now) (a .modulus .now) (a .negated .now) (a .ranges .now) (a .low .now) (a .high .now) in
+    let T = table (a .columns .now) (a .low .now) (a .high .now) in
     let c′ = joinedIn T (a .s) in
     let f = c .before .before .before .first in
     passed-hit (passesAll (a .q) c′) (a .lo) (a .hi) (f .result) (passed-ends (a .q) c′ (a .lo) (f .result) (f .ensures .0) (f .ensures .2)) (omega (arith, c .before .before .if1 .left)) (sym (c .before .passes-at .ensures) ∙ c .if2 .taken)

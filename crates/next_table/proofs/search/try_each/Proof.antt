@@ -12,15 +12,15 @@ use Rattle.next_table.proofs.search.try_each.Statement.{statement}
 use Rattle.next_table.proofs.search.try_each.Tie as tie
 
 abbrev Inv-loop : tie.InvT-loop
-Inv-loop operand modulus negated ranges low high s q lo hi x₀ x = Passed (passesAll q (joinedIn (table operand modulus negated ranges low high) s)) lo x
+Inv-loop columns low high s q lo hi x₀ x = Passed (passesAll q (joinedIn (table columns low high) s)) lo x
 
 abbrev μ-loop : tie.MeasureT-loop
-μ-loop operand modulus negated ranges low high s q lo hi x₀ x = hi - x
+μ-loop columns low high s q lo hi x₀ x = hi - x
 
 loop-holds : tie.Need-loop-holds Inv-loop μ-loop
 loop-holds c =
     let a = c .args in
-    let T = table (a .operand .now) (a .modulus .now) (a .negated .now) (a .ranges .now) (a .low .now) (a .high .now) in
+    let T = table (a .columns .now) (a .low .now) (a .high .now) in
     let c′ = joinedIn T (a .s) in
     passed-start (passesAll (a .q) c′) (a .lo) (a .hi) (a .lo)
 
@@ -34,7 +34,7 @@ returns : tie.Need-returns Inv-loop μ-loop
 returns c =
     let a = c .before .before .before .before .args in
     let i = c .before .before .before .loop .inv in
-    let T = table (a .operand .now) (a .modulus .now) (a .negated .now) (a .ranges .now) (a .low .now) (a .high .now) in
+    let T = table (a .columns .now) (a .low .now) (a .high .now) in
     let c′ = joinedIn T (a .s) in
     passed-hit (passesAll (a .q) c′) (a .lo) (a .hi) (c .before .before .before .loop .x) i (c .before .before .loop-test .taken) (sym (c .before .passes-at .ensures) ∙ c .if1 .taken)
 
@@ -48,7 +48,7 @@ loop-again : tie.Need-loop-again Inv-loop μ-loop
 loop-again c =
     let a = c .before .before .before .before .args in
     let i = c .before .before .before .loop .inv in
-    let T = table (a .operand .now) (a .modulus .now) (a .negated .now) (a .ranges .now) (a .low .now) (a .high .now) in
+    let T = table (a .columns .now) (a .low .now) (a .high .now) in
     let c′ = joinedIn T (a .s) in
     passed-one (passesAll (a .q) c′) (a .lo) (a .hi) (c .before .before .before .loop .x) i (sym (c .before .passes-at .ensures) ∙ c .if1 .left)
 
@@ -57,7 +57,7 @@ returns-2 c =
     let a = c .before .before .args in
     let p = c .before .before .pre in
     let i = c .before .loop .inv in
-    let T = table (a .operand .now) (a .modulus .now) (a .negated .now) (a .ranges .now) (a .low .now) (a .high .now) in
+    let T = table (a .columns .now) (a .low .now) (a .high .now) in
     let c′ = joinedIn T (a .s) in
     passed-end (passesAll (a .q) c′) (a .lo) (a .hi) (c .before .loop .x) i (p .1) (omega (arith, c .loop-test .left))
 

@@ -11,10 +11,10 @@ use Rattle.plain_check.proofs.first.later_clash.Statement.{statement}
 use Rattle.plain_check.proofs.first.later_clash.Tie as tie
 
 abbrev Inv-loop : tie.InvT-loop
-Inv-loop operand modulus negated ranges low high relations clauses p n q₀ q = (q ≤ n) × ((rest : Checked) → From clashOf (table operand modulus negated ranges low high) relations clauses p n (p + 1) rest ≡ From clashOf (table operand modulus negated ranges low high) relations clauses p n q rest)
+Inv-loop columns low high relations clauses p n q₀ q = (q ≤ n) × ((rest : Checked) → From clashOf (table columns low high) relations clauses p n (p + 1) rest ≡ From clashOf (table columns low high) relations clauses p n q rest)
 
 abbrev μ-loop : tie.MeasureT-loop
-μ-loop operand modulus negated ranges low high relations clauses p n q₀ q = n - q
+μ-loop columns low high relations clauses p n q₀ q = n - q
 
 add-q : tie.Need-add-q Inv-loop μ-loop
 add-q c = search needs
@@ -29,7 +29,7 @@ returns : tie.Need-returns Inv-loop μ-loop
 returns c =
     let l = c .before .before .before .before in
     let a = l .before .args in
-    let T = table (a .operand .now) (a .modulus .now) (a .negated .now) (a .ranges .now) (a .low .now) (a .high .now) in
+    let T = table (a .columns .now) (a .low .now) (a .high .now) in
     let s = c .before .before .try-all in
     (λ rest. l .loop .inv .1 rest ∙ behind-found clashOf T (a .relations .now) (a .clauses .now) (a .p) (a .n) (l .loop .q) (s .result) (search needs) (s .ensures .0) (s .ensures .1) (search needs) rest, λ _. search needs, s .ensures .1)
 
@@ -43,7 +43,7 @@ loop-again : tie.Need-loop-again Inv-loop μ-loop
 loop-again c =
     let l = c .before .before .before .before in
     let a = l .before .args in
-    let T = table (a .operand .now) (a .modulus .now) (a .negated .now) (a .ranges .now) (a .low .now) (a .high .now) in
+    let T = table (a .columns .now) (a .low .now) (a .high .now) in
     let s = c .before .before .try-all in
     (omega arith, λ rest. l .loop .inv .1 rest ∙ behind-more clashOf T (a .relations .now) (a .clauses .now) (a .p) (a .n) (l .loop .q) (s .result) (search needs) (s .ensures .0) (search needs) rest)
 
@@ -54,7 +54,7 @@ returns-2 : tie.Need-returns-2 Inv-loop μ-loop
 returns-2 c =
     let l = c .before .before in
     let a = l .before .args in
-    let T = table (a .operand .now) (a .modulus .now) (a .negated .now) (a .ranges .now) (a .low .now) (a .high .now) in
+    let T = table (a .columns .now) (a .low .now) (a .high .now) in
     (λ rest. l .loop .inv .1 rest ∙ behind-none clashOf T (a .relations .now) (a .clauses .now) (a .p) (a .n) (l .loop .q) (c .nowhere .result) (search needs) rest, λ h. absurd (omega arith), c .nowhere .ensures .1)
 
 pub later-clash-spec : {M : Type 1} → statement M

@@ -10,15 +10,15 @@ use Rattle.plain_check.proofs.search.try_all.Statement.{statement}
 use Rattle.plain_check.proofs.search.try_all.Tie as tie
 
 abbrev Inv-loop : tie.InvT-loop
-Inv-loop operand modulus negated ranges low high relations clauses p q e₀ e = NoneIn (meetsBoth (table operand modulus negated ranges low high) relations clauses p q) 0 (rankAt e 0 0 0)
+Inv-loop columns low high relations clauses p q e₀ e = NoneIn (meetsBoth (table columns low high) relations clauses p q) 0 (rankAt e 0 0 0)
 
 abbrev μ-loop : tie.MeasureT-loop
-μ-loop operand modulus negated ranges low high relations clauses p q e₀ e = suc maxExponent - e
+μ-loop columns low high relations clauses p q e₀ e = suc maxExponent - e
 
 loop-holds : tie.Need-loop-holds Inv-loop μ-loop
 loop-holds c =
     let a = c .args in
-    exponents-start (table (a .operand .now) (a .modulus .now) (a .negated .now) (a .ranges .now) (a .low .now) (a .high .now)) (a .relations .now) (a .clauses .now) (a .p) (a .q)
+    exponents-start (table (a .columns .now) (a .low .now) (a .high .now)) (a .relations .now) (a .clauses .now) (a .p) (a .q)
 
 try-places-requires : tie.Need-try-places-requires Inv-loop μ-loop
 try-places-requires c κs = search needs
@@ -28,7 +28,7 @@ returns c =
     let l = c .before .before .before .before in
     let a = l .before .args in
     let r = c .before .before .try-places in
-    exponents-found (table (a .operand .now) (a .modulus .now) (a .negated .now) (a .ranges .now) (a .low .now) (a .high .now)) (a .relations .now) (a .clauses .now) (a .p) (a .q) (l .loop .e) (r .result) (search needs) (l .loop .inv) (r .ensures) (search needs)
+    exponents-found (table (a .columns .now) (a .low .now) (a .high .now)) (a .relations .now) (a .clauses .now) (a .p) (a .q) (l .loop .e) (r .result) (search needs) (l .loop .inv) (r .ensures) (search needs)
 
 add-e : tie.Need-add-e Inv-loop μ-loop
 add-e c = search needs
@@ -41,7 +41,7 @@ loop-again c =
     let l = c .before .before .before .before in
     let a = l .before .args in
     let r = c .before .before .try-places in
-    exponents-more (table (a .operand .now) (a .modulus .now) (a .negated .now) (a .ranges .now) (a .low .now) (a .high .now)) (a .relations .now) (a .clauses .now) (a .p) (a .q) (l .loop .e) (r .result) (l .loop .inv) (r .ensures) (search needs)
+    exponents-more (table (a .columns .now) (a .low .now) (a .high .now)) (a .relations .now) (a .clauses .now) (a .p) (a .q) (l .loop .e) (r .result) (l .loop .inv) (r .ensures) (search needs)
 
 nowhere-requires : tie.Need-nowhere-requires Inv-loop μ-loop
 nowhere-requires c κs = search needs
@@ -50,7 +50,7 @@ returns-2 : tie.Need-returns-2 Inv-loop μ-loop
 returns-2 c =
     let l = c .before .before in
     let a = l .before .args in
-    exponents-none (table (a .operand .now) (a .modulus .now) (a .negated .now) (a .ranges .now) (a .low .now) (a .high .now)) (a .relations .now) (a .clauses .now) (a .p) (a .q) (l .loop .e) (c .nowhere .result) (search needs) (l .loop .inv) (c .nowhere .ensures .1) (c .nowhere .ensures .0)
+    exponents-none (table (a .columns .now) (a .low .now) (a .high .now)) (a .relations .now) (a .clauses .now) (a .p) (a .q) (l .loop .e) (c .nowhere .result) (search needs) (l .loop .inv) (c .nowhere .ensures .1) (c .nowhere .ensures .0)
 
 pub try-all-spec : {M : Type 1} → statement M
 try-all-spec =

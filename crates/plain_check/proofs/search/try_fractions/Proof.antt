@@ -9,10 +9,10 @@ use Rattle.plain_check.proofs.search.try_fractions.Statement.{statement
 use Rattle.plain_check.proofs.search.try_fractions.Tie as tie
 
 abbrev Inv-loop : tie.InvT-loop
-Inv-loop operand modulus negated ranges low high relations clauses p q e v i limit f₀ f = NoneIn (meetsBoth (table operand modulus negated ranges low high) relations clauses p q) (rankAt e v i 0) (rankAt e v i f)
+Inv-loop columns low high relations clauses p q e v i limit f₀ f = NoneIn (meetsBoth (table columns low high) relations clauses p q) (rankAt e v i 0) (rankAt e v i f)
 
 abbrev μ-loop : tie.MeasureT-loop
-μ-loop operand modulus negated ranges low high relations clauses p q e v i limit f₀ f = limit - f
+μ-loop columns low high relations clauses p q e v i limit f₀ f = limit - f
 
 power-requires : tie.Need-power-requires Inv-loop μ-loop
 power-requires c κs = search needs
@@ -20,7 +20,7 @@ power-requires c κs = search needs
 loop-holds : tie.Need-loop-holds Inv-loop μ-loop
 loop-holds c =
     let a = c .before .args in
-    none-start (meetsBoth (table (a .operand .now) (a .modulus .now) (a .negated .now) (a .ranges .now) (a .low .now) (a .high .now)) (a .relations .now) (a .clauses .now) (a .p) (a .q)) (rankAt (a .e) (a .v) (a .i) 0)
+    none-start (meetsBoth (table (a .columns .now) (a .low .now) (a .high .now)) (a .relations .now) (a .clauses .now) (a .p) (a .q)) (rankAt (a .e) (a .v) (a .i) 0)
 
 number-at-requires : tie.Need-number-at-requires Inv-loop μ-loop
 number-at-requires c κs = omega (arith, c .before .before .power .ensures)
@@ -33,7 +33,7 @@ returns c =
     let l = c .before .before .before .before in
     let s = l .before .before in
     let a = s .args in
-    fractions-found (meetsBoth (table (a .operand .now) (a .modulus .now) (a .negated .now) (a .ranges .now) (a .low .now) (a .high .now)) (a .relations .now) (a .clauses .now) (a .p) (a .q)) (a .e) (a .v) (a .i) (s .pre .0) (s .pre .1) (s .pre .2) (s .pre .3) (l .loop .f) (c .before .before .number-at .result) (c .before .meets-both .result)
+    fractions-found (meetsBoth (table (a .columns .now) (a .low .now) (a .high .now)) (a .relations .now) (a .clauses .now) (a .p) (a .q)) (a .e) (a .v) (a .i) (s .pre .0) (s .pre .1) (s .pre .2) (s .pre .3) (l .loop .f) (c .before .before .number-at .result) (c .before .meets-both .result)
     (omega (arith, l .before .power .ensures)) (c .before .before .number-at .ensures) (c .before .meets-both .ensures) (c .if1 .taken) (l .loop .inv)
 
 add-f : tie.Need-add-f Inv-loop μ-loop
@@ -47,7 +47,7 @@ loop-again c =
     let l = c .before .before .before .before in
     let s = l .before .before in
     let a = s .args in
-    fractions-more (meetsBoth (table (a .operand .now) (a .modulus .now) (a .negated .now) (a .ranges .now) (a .low .now) (a .high .now)) (a .relations .now) (a .clauses .now) (a .p) (a .q)) (a .e) (a .v) (a .i) (s .pre .0) (s .pre .1) (s .pre .2) (s .pre .3) (l .loop .f) (c .before .before .number-at .result) (c .before .meets-both .result)
+    fractions-more (meetsBoth (table (a .columns .now) (a .low .now) (a .high .now)) (a .relations .now) (a .clauses .now) (a .p) (a .q)) (a .e) (a .v) (a .i) (s .pre .0) (s .pre .1) (s .pre .2) (s .pre .3) (l .loop .f) (c .before .before .number-at .result) (c .before .meets-both .result)
     (omega (arith, l .before .power .ensures)) (c .before .before .number-at .ensures) (c .before .meets-both .ensures) (c .if1 .left) (l .loop .inv)
 
 nowhere-requires : tie.Need-nowhere-requires Inv-loop μ-loop
@@ -58,7 +58,7 @@ returns-2 c =
     let l = c .before .before in
     let s = l .before .before in
     let a = s .args in
-    fractions-none (meetsBoth (table (a .operand .now) (a .modulus .now) (a .negated .now) (a .ranges .now) (a .low .now) (a .high .now)) (a .relations .now) (a .clauses .now) (a .p) (a .q)) (a .e) (a .v) (a .i) (s .pre .0) (s .pre .1) (s .pre .2) (s .pre .3) (l .loop .f) (c .nowhere .result)
+    fractions-none (meetsBoth (table (a .columns .now) (a .low .now) (a .high .now)) (a .relations .now) (a .clauses .now) (a .p) (a .q)) (a .e) (a .v) (a .i) (s .pre .0) (s .pre .1) (s .pre .2) (s .pre .3) (l .loop .f) (c .nowhere .result)
     (omega (arith, l .before .power .ensures)) (c .nowhere .ensures .1) (c .nowhere .ensures .0) (l .loop .inv)
 
 pub try-fractions-spec : {M : Type 1} → statement M

@@ -10,15 +10,15 @@ use Rattle.plain_check.proofs.search.try_places.Statement.{statement}
 use Rattle.plain_check.proofs.search.try_places.Tie as tie
 
 abbrev Inv-loop : tie.InvT-loop
-Inv-loop operand modulus negated ranges low high relations clauses p q e v₀ v = NoneIn (meetsBoth (table operand modulus negated ranges low high) relations clauses p q) (rankAt e 0 0 0) (rankAt e v 0 0)
+Inv-loop columns low high relations clauses p q e v₀ v = NoneIn (meetsBoth (table columns low high) relations clauses p q) (rankAt e 0 0 0) (rankAt e v 0 0)
 
 abbrev μ-loop : tie.MeasureT-loop
-μ-loop operand modulus negated ranges low high relations clauses p q e v₀ v = suc maxPlaces - v
+μ-loop columns low high relations clauses p q e v₀ v = suc maxPlaces - v
 
 loop-holds : tie.Need-loop-holds Inv-loop μ-loop
 loop-holds c =
     let a = c .args in
-    none-start (meetsBoth (table (a .operand .now) (a .modulus .now) (a .negated .now) (a .ranges .now) (a .low .now) (a .high .now)) (a .relations .now) (a .clauses .now) (a .p) (a .q)) (rankAt (a .e) 0 0 0)
+    none-start (meetsBoth (table (a .columns .now) (a .low .now) (a .high .now)) (a .relations .now) (a .clauses .now) (a .p) (a .q)) (rankAt (a .e) 0 0 0)
 
 try-integers-requires : tie.Need-try-integers-requires Inv-loop μ-loop
 try-integers-requires c κs = search needs
@@ -28,7 +28,7 @@ returns c =
     let l = c .before .before .before .before in
     let a = l .before .args in
     let r = c .before .before .try-integers in
-    places-found (meetsBoth (table (a .operand .now) (a .modulus .now) (a .negated .now) (a .ranges .now) (a .low .now) (a .high .now)) (a .relations .now) (a .clauses .now) (a .p) (a .q)) (a .e) (l .loop .v) (r .result) (search needs) (l .loop .inv) (r .ensures) (search needs)
+    places-found (meetsBoth (table (a .columns .now) (a .low .now) (a .high .now)) (a .relations .now) (a .clauses .now) (a .p) (a .q)) (a .e) (l .loop .v) (r .result) (search needs) (l .loop .inv) (r .ensures) (search needs)
 
 add-v : tie.Need-add-v Inv-loop μ-loop
 add-v c = search needs
@@ -41,7 +41,7 @@ loop-again c =
     let l = c .before .before .before .before in
     let a = l .before .args in
     let r = c .before .before .try-integers in
-    places-more (meetsBoth (table (a .operand .now) (a .modulus .now) (a .negated .now) (a .ranges .now) (a .low .now) (a .high .now)) (a .relations .now) (a .clauses .now) (a .p) (a .q)) (a .e) (l .loop .v) (r .result) (l .loop .inv) (r .ensures) (search needs)
+    places-more (meetsBoth (table (a .columns .now) (a .low .now) (a .high .now)) (a .relations .now) (a .clauses .now) (a .p) (a .q)) (a .e) (l .loop .v) (r .result) (l .loop .inv) (r .ensures) (search needs)
 
 nowhere-requires : tie.Need-nowhere-requires Inv-loop μ-loop
 nowhere-requires c κs = search needs
@@ -50,7 +50,7 @@ returns-2 : tie.Need-returns-2 Inv-loop μ-loop
 returns-2 c =
     let l = c .before .before in
     let a = l .before .args in
-    places-none (meetsBoth (table (a .operand .now) (a .modulus .now) (a .negated .now) (a .ranges .now) (a .low .now) (a .high .now)) (a .relations .now) (a .clauses .now) (a .p) (a .q)) (a .e) (l .loop .v) (c .nowhere .result) (search needs) (l .loop .inv) (c .nowhere .ensures .1) (c .nowhere .ensures .0)
+    places-none (meetsBoth (table (a .columns .now) (a .low .now) (a .high .now)) (a .relations .now) (a .clauses .now) (a .p) (a .q)) (a .e) (l .loop .v) (c .nowhere .result) (search needs) (l .loop .inv) (c .nowhere .ensures .1) (c .nowhere .ensures .0)
 
 pub try-places-spec : {M : Type 1} → statement M
 try-places-spec =

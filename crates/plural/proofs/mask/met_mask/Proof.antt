@@ -11,11 +11,11 @@ use Rattle.plural.proofs.mask.met_mask.Statement.{statement}
 use Rattle.plural.proofs.mask.met_mask.Tie as tie
 
 abbrev Inv-loop : tie.InvT-loop
-Inv-loop operand modulus negated ranges low high relations clauses count x rules mask₀ bit₀ j₀ mask bit j =
-    (j ≤ rules) × (bit ≡ j) × (mask ≡ maskOf (stretch (metAt (table operand modulus negated ranges low high) relations clauses x) 0 j))
+Inv-loop columns low high relations clauses count x rules mask₀ bit₀ j₀ mask bit j =
+    (j ≤ rules) × (bit ≡ j) × (mask ≡ maskOf (stretch (metAt (table columns low high) relations clauses x) 0 j))
 
 abbrev μ-loop : tie.MeasureT-loop
-μ-loop operand modulus negated ranges low high relations clauses count x rules mask₀ bit₀ j₀ mask bit j = rules - j
+μ-loop columns low high relations clauses count x rules mask₀ bit₀ j₀ mask bit j = rules - j
 
 lesser-requires : tie.Need-lesser-requires Inv-loop μ-loop
 lesser-requires c κs = search needs
@@ -23,7 +23,7 @@ lesser-requires c κs = search needs
 loop-holds : tie.Need-loop-holds Inv-loop μ-loop
 loop-holds c =
     let a = c .before .args in
-    (omega arith, refl, mask-none (metAt (table (a .operand .now) (a .modulus .now) (a .negated .now) (a .ranges .now) (a .low .now) (a .high .now)) (a .relations .now) (a .clauses .now) (a .x)))
+    (omega arith, refl, mask-none (metAt (table (a .columns .now) (a .low .now) (a .high .now)) (a .relations .now) (a .clauses .now) (a .x)))
 
 met-at-requires : tie.Need-met-at-requires Inv-loop μ-loop
 met-at-requires c κs = search needs
@@ -32,7 +32,7 @@ with-bit-requires : tie.Need-with-bit-requires Inv-loop μ-loop
 with-bit-requires c κs =
     let l = c .before .before in
     let a = l .before .before .args in
-    let g = metAt (table (a .operand .now) (a .modulus .now) (a .negated .now) (a .ranges .now) (a .low .now) (a .high .now)) (a .relations .now) (a .clauses .now) (a .x) in
+    let g = metAt (table (a .columns .now) (a .low .now) (a .high .now)) (a .relations .now) (a .clauses .now) (a .x) in
     let h : l .loop .mask < 2 ^ l .loop .j = mask-fits g (l .loop .j) (l .loop .mask) (l .loop .inv .2) in
     (rw (l .loop .inv .1) h, omega arith)
 
@@ -49,7 +49,7 @@ loop-again : tie.Need-loop-again Inv-loop μ-loop
 loop-again c =
     let l = c .before .before .before in
     let a = l .before .before .args in
-    let T = table (a .operand .now) (a .modulus .now) (a .negated .now) (a .ranges .now) (a .low .now) (a .high .now) in
+    let T = table (a .columns .now) (a .low .now) (a .high .now) in
     let g = metAt T (a .relations .now) (a .clauses .now) (a .x) in
     let q = c .before .met-at in
     (omega arith, omega arith, mask-more g (l .loop .j) (q .result) (l .loop .mask) (c .with-bit .result) (l .loop .inv .2) (q .ensures) (rw (l .loop .inv .1) at (c .with-bit .ensures)))
@@ -58,7 +58,7 @@ returns : tie.Need-returns Inv-loop μ-loop
 returns c =
     let l = c .before in
     let a = l .before .before .args in
-    let g = metAt (table (a .operand .now) (a .modulus .now) (a .negated .now) (a .ranges .now) (a .low .now) (a .high .now)) (a .relations .now) (a .clauses .now) (a .x) in
+    let g = metAt (table (a .columns .now) (a .low .now) (a .high .now)) (a .relations .now) (a .clauses .now) (a .x) in
     let e : l .loop .j ≡ min (a .count) 6 = omega arith in
     l .loop .inv .2 ∙ ap (λ (k : ℕ). maskOf (stretch g 0 k)) e
 

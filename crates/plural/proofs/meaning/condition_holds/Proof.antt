@@ -11,11 +11,11 @@ use Rattle.plural.proofs.meaning.condition_holds.Statement.{statement}
 use Rattle.plural.proofs.meaning.condition_holds.Tie as tie
 
 abbrev Inv-loop : tie.InvT-loop
-Inv-loop operand modulus negated ranges low high relations from to x j₀ j =
-    conditionHolds (clausesIn (table operand modulus negated ranges low high) relations j to) x ≡ conditionHolds (clausesIn (table operand modulus negated ranges low high) relations from to) x
+Inv-loop columns low high relations from to x j₀ j =
+    conditionHolds (clausesIn (table columns low high) relations j to) x ≡ conditionHolds (clausesIn (table columns low high) relations from to) x
 
 abbrev μ-loop : tie.MeasureT-loop
-μ-loop operand modulus negated ranges low high relations from to x j₀ j = to - j
+μ-loop columns low high relations from to x j₀ j = to - j
 
 loop-holds : tie.Need-loop-holds Inv-loop μ-loop
 loop-holds c = search needs
@@ -33,7 +33,7 @@ returns : tie.Need-returns Inv-loop μ-loop
 returns c =
     let l = c .before .before .before .before .before in
     let a = l .before .args in
-    let T = table (a .operand .now) (a .modulus .now) (a .negated .now) (a .ranges .now) (a .low .now) (a .high .now) in
+    let T = table (a .columns .now) (a .low .now) (a .high .now) in
     let h : c .before .clause-holds .result ≡ clauseHolds (clauseAt T (a .relations .now) (l .loop .j)) (a .x) = c .before .clause-holds .ensures ∙ rw (c .before .before .before .relations-start .ensures, c .before .before .relations-stop .ensures) in
     sym (sym (l .loop .inv) ∙ any-found (λ (r : List Relation). clauseHolds r (a .x)) (clauseAt T (a .relations .now)) (l .loop .j) (a .to) (c .before .before .before .before .loop-test .taken) (sym h ∙ c .if1 .taken))
 
@@ -47,7 +47,7 @@ loop-again : tie.Need-loop-again Inv-loop μ-loop
 loop-again c =
     let l = c .before .before .before .before .before in
     let a = l .before .args in
-    let T = table (a .operand .now) (a .modulus .now) (a .negated .now) (a .ranges .now) (a .low .now) (a .high .now) in
+    let T = table (a .columns .now) (a .low .now) (a .high .now) in
     let h : c .before .clause-holds .result ≡ clauseHolds (clauseAt T (a .relations .now) (l .loop .j)) (a .x) = c .before .clause-holds .ensures ∙ rw (c .before .before .before .relations-start .ensures, c .before .before .relations-stop .ensures) in
     sym (any-next (λ (r : List Relation). clauseHolds r (a .x)) (clauseAt T (a .relations .now)) (l .loop .j) (a .to) (c .before .before .before .before .loop-test .taken) (sym h ∙ c .if1 .left)) ∙ l .loop .inv
 
@@ -55,7 +55,7 @@ returns-2 : tie.Need-returns-2 Inv-loop μ-loop
 returns-2 c =
     let l = c .before in
     let a = l .before .args in
-    let T = table (a .operand .now) (a .modulus .now) (a .negated .now) (a .ranges .now) (a .low .now) (a .high .now) in
+    let T = table (a .columns .now) (a .low .now) (a .high .now) in
     sym (sym (l .loop .inv) ∙ any-none (λ (r : List Relation). clauseHolds r (a .x)) (clauseAt T (a .relations .now)) (l .loop .j) (a .to) (c .loop-test .left))
 
 pub condition-holds-spec : {M : Type 1} → statement M

@@ -1,5 +1,5 @@
 -- `profile::values::places_of`: the values below 10.
-use Rattle.rules.specs.Stretch.{table, relationAt}
+use Rattle.rules.specs.Stretch.{relationBy}
 use Rattle.clash_laws.specs.Fast.{test}
 use Rattle.profile.proofs.Filling.{values-lt}
 use borrow.Author.Needs.{needs}
@@ -10,7 +10,7 @@ values-of-requires : tie.Need-values-of-requires
 values-of-requires c κs = search needs
 
 returns : tie.Need-returns
-returns c = let a = c .before .args in let T = table (a .operand .now) (a .modulus .now) (a .negated .now) (a .ranges .now) (a .low .now) (a .high .now) in (c .values-of .ensures, values-lt (test (relationAt T (a .j))) 10 (c .values-of .result) (c .values-of .ensures))
+returns c = let a = c .before .args in (c .values-of .ensures, values-lt (test (relationBy (a .low .now) (a .high .now) (a .s))) 10 (c .values-of .result) (c .values-of .ensures))
 
 pub places-of-spec : {M : Type 1} → statement M
 places-of-spec = tie.close (tie.spec values-of-requires returns)

@@ -1,8 +1,9 @@
 -- `runs::marks::mark_levels` marks the level of each relation. Invariant: those of the relations so far are marked.
-use Rattle.rules.specs.Stretch.{table, relationAt}
+use Rattle.rules.specs.Stretch.{singleAt, relationBy, table}
+use Rattle.rules.specs.declared.Single.{Single}
 use native.Mathlib.Omega.{arith}
-use Prim.Native.Nat.{ℕ, _-_, _≤_}
-use mathlib.Core.Path.{_≡_, subst}
+use Prim.Native.Nat.{_-_, _≤_}
+use mathlib.Core.Path.{_≡_, ap, subst, _∙_}
 use Rattle.runs.specs.Kept.{sizeOf, tier}
 use Rattle.runs.specs.Runs.{Noted}
 use Rattle.runs.proofs.Marking.{Marks, marks-start, marks-more, marks-own, marks-levelled, Telling, telling-start, telling-more, telling-done}
@@ -11,12 +12,12 @@ use Rattle.runs.proofs.marks.mark_levels.Statement.{statement}
 use Rattle.runs.proofs.marks.mark_levels.Tie as tie
 
 abbrev Inv-loop : tie.InvT-loop
-Inv-loop operand modulus negated ranges low high s q asked₀ tiers₀ size k₀ asked tiers k =
-    let T = table operand modulus negated ranges low high in
+Inv-loop columns low high s q asked₀ tiers₀ size k₀ asked tiers k =
+    let T = table columns low high in
     Marks T s q k asked × (size ≡ sizeOf s) × Telling T s q k tiers
 
 abbrev μ-loop : tie.MeasureT-loop
-μ-loop operand modulus negated ranges low high s q asked₀ tiers₀ size k₀ asked tiers k = size - k
+μ-loop columns low high s q asked₀ tiers₀ size k₀ asked tiers k = size - k
 
 mark-digit-requires : tie.Need-mark-digit-requires Inv-loop μ-loop
 mark-digit-requires c κs = search needs
@@ -27,11 +28,14 @@ size-of-requires c κs = search needs
 loop-holds : tie.Need-loop-holds Inv-loop μ-loop
 loop-holds c =
     let a = c .before .before .before .args in
-    let T = table (a .operand .now) (a .modulus .now) (a .negated .now) (a .ranges .now) (a .low .now) (a .high .now) in
+    let T = table (a .columns .now) (a .low .now) (a .high .now) in
     (marks-start T (a .s) (a .q) (c .before .mark-digit .last .1 .0) (c .before .mark-digit .ensures), c .size-of .ensures, telling-start T (a .s) (a .q) (a .tiers .now) (c .before .before .before .pre .1 .3))
 
 place-of-requires : tie.Need-place-of-requires Inv-loop μ-loop
 place-of-requires c κs = (c .before .before .before .before .before .pre .1 .0, c .before .before .before .before .before .pre .1 .1, omega (arith, c .before .loop .inv .1, c .loop-test .taken))
+
+single-at-requires : tie.Need-single-at-requires Inv-loop μ-loop
+single-at-requires c κs = c .place-of .ensures .1
 
 mark-of-requires : tie.Need-mark-of-requires Inv-loop μ-loop
 mark-of-requires c κs = search needs
@@ -50,15 +54,17 @@ loop-less c = search needs
 
 loop-again : tie.Need-loop-again Inv-loop μ-loop
 loop-again c =
-    let a = c .before .before .before .before .before .before .before .before .args in
-    let T = table (a .operand .now) (a .modulus .now) (a .negated .now) (a .ranges .now) (a .low .now) (a .high .now) in
-    let l = c .before .before .before .before .loop in
-    (marks-more T (a .s) (a .q) (l .k) (l .asked) (c .mark-of .last .1 .1 .1 .1 .1 .1 .1 .1 .0) (omega (arith, l .inv .1, c .before .before .before .loop-test .taken)) (l .inv .0) (subst (λ (j : ℕ). Noted (a .q) (relationAt T j) (c .mark-of .last .1 .1 .1 .1 .1 .1 .1 .1 .0)) (c .before .before .place-of .ensures .0) (c .mark-of .ensures .1 .0)) (c .mark-of .ensures .1 .1), l .inv .1, telling-more T (a .s) (a .q) (l .k) (c .mark-of .result) (l .tiers) (omega (arith, l .inv .1, c .before .before .before .loop-test .taken, c .before .before .before .before .before .before .before .before .pre .1 .2)) (l .inv .2) (subst (λ (j : ℕ). c .mark-of .result ≡ tier (a .q) (relationAt T j)) (c .before .before .place-of .ensures .0) (c .mark-of .ensures .0)))
+    let a = c .before .before .before .before .before .before .before .before .before .args in
+    let T = table (a .columns .now) (a .low .now) (a .high .now) in
+    let l = c .before .before .before .before .before .loop in
+    let m = c .mark-of in
+    let e = c .before .before .single-at .ensures .0 ∙ ap (singleAt (a .columns .now)) (c .before .before .before .place-of .ensures .0) in
+    (marks-more T (a .s) (a .q) (l .k) (l .asked) (m .last .1 .1 .0) (omega (arith, l .inv .1, c .before .before .before .before .loop-test .taken)) (l .inv .0) (subst (λ (s : Single). Noted (a .q) (relationBy (a .low .now) (a .high .now) s) (m .last .1 .1 .0)) e (m .ensures .1 .0 (a .low .now) (a .high .now))) (m .ensures .1 .1), l .inv .1, telling-more T (a .s) (a .q) (l .k) (m .result) (l .tiers) (omega (arith, l .inv .1, c .before .before .before .before .loop-test .taken, c .before .before .before .before .before .before .before .before .before .pre .1 .2)) (l .inv .2) (m .ensures .0 (a .low .now) (a .high .now) ∙ ap (λ (s : Single). tier (a .q) (relationBy (a .low .now) (a .high .now) s)) e))
 
 returns : tie.Need-returns Inv-loop μ-loop
 returns c =
     let a = c .before .before .before .before .before .args in
-    let T = table (a .operand .now) (a .modulus .now) (a .negated .now) (a .ranges .now) (a .low .now) (a .high .now) in
+    let T = table (a .columns .now) (a .low .now) (a .high .now) in
     let l = c .before .loop in
     let h : sizeOf (a .s) ≤ l .k = omega (arith, l .inv .1, c .loop-test .left) in
     (telling-done T (a .s) (a .q) (l .k) (l .tiers) h (l .inv .2), (λ j m e x. marks-own T (a .s) (a .q) (l .k) (l .asked) h (l .inv .0) j e x, λ e. marks-levelled T (a .s) (a .q) (l .k) (l .asked) h (l .inv .0) e))
@@ -73,6 +79,7 @@ mark-levels-spec =
     size-of-requires
     loop-holds
     place-of-requires
+    single-at-requires
     mark-of-requires
     mul-tiers
     element-write-tiers

@@ -1,17 +1,11 @@
 -- `runs::relation::holds_of`: the run of a remainder says what the relation says of it.
-use Rattle.rules.specs.Stretch.{table, relationAt}
 use native.Mathlib.Omega.{arith}
 use native.Mathlib.Nat.{mod-le}
+use Rattle.rules.specs.Stretch.{relationBy}
 use Rattle.runs.proofs.Levelling.{listed-test}
 use borrow.Author.Needs.{needs}
 use Rattle.runs.proofs.relation.holds_of.Statement.{statement}
 use Rattle.runs.proofs.relation.holds_of.Tie as tie
-
-mul-wide : tie.Need-mul-wide
-mul-wide c = search needs
-
-element-copy-out-wide : tie.Need-element-copy-out-wide
-element-copy-out-wide c = search needs
 
 wide-requires : tie.Need-wide-requires
 wide-requires c κs = search needs
@@ -21,22 +15,14 @@ remainder-requires c κs = search needs
 
 listed-run-requires : tie.Need-listed-run-requires
 listed-run-requires c κs =
-    let a = c .before .before .before .args in
-    (c .before .before .before .pre .1, omega (arith, c .remainder .ensures, mod-le (a .x) (c .before .wide .result), c .before .before .before .pre .0))
+    let a = c .before .before .args in
+    (c .before .before .pre .1, omega (arith, c .remainder .ensures, mod-le (a .x) (c .before .wide .result), c .before .before .pre .0))
 
 returns : tie.Need-returns
 returns c =
-    let a = c .before .before .before .before .args in
-    let T = table (a .operand .now) (a .modulus .now) (a .negated .now) (a .ranges .now) (a .low .now) (a .high .now) in
-    listed-test (relationAt T (a .j)) (a .x) (c .before .remainder .result) (c .listed-run .result .stop) (c .listed-run .result .says) (rw (c .before .before .wide .ensures) at (c .before .remainder .ensures)) (c .listed-run .ensures .0)
+    let a = c .before .before .before .args in
+    let l = c .listed-run in
+    listed-test (relationBy (a .low .now) (a .high .now) (a .s)) (a .x) (c .before .remainder .result) (l .result .stop) (l .result .says) (rw (c .before .before .wide .ensures) at (c .before .remainder .ensures)) (l .ensures .0)
 
 pub holds-of-spec : {M : Type 1} → statement M
-holds-of-spec =
-    tie.close
-    (tie.spec
-    mul-wide
-    element-copy-out-wide
-    wide-requires
-    remainder-requires
-    listed-run-requires
-    returns)
+holds-of-spec = tie.close (tie.spec wide-requires remainder-requires listed-run-requires returns)

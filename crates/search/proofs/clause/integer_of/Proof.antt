@@ -18,14 +18,14 @@ lowest-of-requires c κs = search needs
 least-from-requires : tie.Need-least-from-requires
 least-from-requires c κs =
     let a = c .before .before .args in
-    let T = table (a .operand .now) (a .modulus .now) (a .negated .now) (a .ranges .now) (a .low .now) (a .high .now) in
+    let T = table (a .columns .now) (a .low .now) (a .high .now) in
     below-integer (joinedIn T (a .s)) (a .whole) (c .before .one-if .result) (a .floor) (c .before .one-if .ensures) (c .before .before .pre .3)
 
 returns : tie.Need-returns
 returns c =
     let a = c .before .before .before .args in
     let p = c .before .before .before .pre in
-    let T = table (a .operand .now) (a .modulus .now) (a .negated .now) (a .ranges .now) (a .low .now) (a .high .now) in
+    let T = table (a .columns .now) (a .low .now) (a .high .now) in
     integer-is (a .whole) (a .e) (c .before .before .one-if .result) (c .before .lowest-of .result) (c .least-from .result) (joinedIn T (a .s)) (c .before .before .one-if .ensures) (c .before .lowest-of .ensures)
     (c .least-from .ensures ∙ integer-ready T (a .s) (a .whole) (c .before .before .one-if .result) (c .before .lowest-of .result) (p .1) (p .2) (c .before .before .one-if .ensures) (low-le (a .e) (c .before .lowest-of .result) (p .0) (c .before .lowest-of .ensures)))
 

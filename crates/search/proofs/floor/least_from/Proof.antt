@@ -11,7 +11,7 @@ greater-requires c κs = search needs
 returns : tie.Need-returns
 returns c =
     let a = c .before .before .args in
-    let T = table (a .operand .now) (a .modulus .now) (a .negated .now) (a .ranges .now) (a .low .now) (a .high .now) in
+    let T = table (a .columns .now) (a .low .now) (a .high .now) in
     least-past T (a .s) (a .q) (a .lo) (a .hi) (a .floor) (c .before .greater .result) (c .before .before .pre) (c .before .greater .ensures) (search needs)
 
 least-number-requires : tie.Need-least-number-requires
@@ -20,7 +20,7 @@ least-number-requires c κs = search needs
 returns-2 : tie.Need-returns-2
 returns-2 c =
     let a = c .before .before .before .args in
-    let T = table (a .operand .now) (a .modulus .now) (a .negated .now) (a .ranges .now) (a .low .now) (a .high .now) in
+    let T = table (a .columns .now) (a .low .now) (a .high .now) in
     least-from T (a .s) (a .q) (a .lo) (a .hi) (a .floor) (c .before .before .greater .result) (c .before .before .before .pre) (c .before .before .greater .ensures) (c .least-number .result) (search needs) (c .least-number .ensures)
 
 pub least-from-spec : {M : Type 1} → statement M

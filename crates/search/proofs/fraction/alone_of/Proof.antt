@@ -14,7 +14,7 @@ least-from-requires c κs = c .pre .2
 returns : tie.Need-returns
 returns c =
     let a = c .before .args in
-    let T = table (a .operand .now) (a .modulus .now) (a .negated .now) (a .ranges .now) (a .low .now) (a .high .now) in
+    let T = table (a .columns .now) (a .low .now) (a .high .now) in
     alone-is (c .least-from .result) (joinedIn T (a .s)) (c .least-from .ensures ∙ alone-ready T (a .s) (c .before .pre .0) (c .before .pre .1))
 
 pub alone-of-spec : {M : Type 1} → statement M

@@ -19,7 +19,7 @@ least-room-requires c κs = search needs
 returns : tie.Need-returns
 returns c =
     let a = c .before .before .before .args in
-    let T = table (a .operand .now) (a .modulus .now) (a .negated .now) (a .ranges .now) (a .low .now) (a .high .now) in
+    let T = table (a .columns .now) (a .low .now) (a .high .now) in
     let x = joinedIn T (a .s) in
     let d = bounded (a .b) x in
     part-crowded d (a .vs) (a .ws) (c .before .before .before .pre .1) (c .before .before .least-f .result) (c .before .least-room .result) (c .before .before .least-f .ensures ∙ bounded-f (a .b) x) (c .before .least-room .ensures .0) (search needs)
@@ -33,13 +33,13 @@ tail-code-requires c κs = search needs
 code-of-requires : tie.Need-code-of-requires
 code-of-requires c κs =
     let a = c .before .before .before .before .before .args in
-    let T = table (a .operand .now) (a .modulus .now) (a .negated .now) (a .ranges .now) (a .low .now) (a .high .now) in
+    let T = table (a .columns .now) (a .low .now) (a .high .now) in
     (c .before .before .before .least-room .ensures .1, f-most (c .before .before .before .before .least-f .result) (joinedIn T (a .s)) (c .before .before .before .before .least-f .ensures))
 
 returns-2 : tie.Need-returns-2
 returns-2 c =
     let a = c .before .before .before .before .before .before .before .args in
-    let T = table (a .operand .now) (a .modulus .now) (a .negated .now) (a .ranges .now) (a .low .now) (a .high .now) in
+    let T = table (a .columns .now) (a .low .now) (a .high .now) in
     let x = joinedIn T (a .s) in
     let d = bounded (a .b) x in
     part-reached d (a .vs) (a .ws) (c .before .before .before .before .before .before .before .pre .1) (c .before .before .before .before .before .before .least-f .result) (c .before .before .before .before .before .least-room .result) (c .before .before .before .before .before .before .least-f .ensures ∙ bounded-f (a .b) x) (c .before .before .before .before .before .least-room .ensures .0) (c .before .before .before .zeros-of .result) (c .before .before .tail-code .result) (c .before .before .before .zeros-of .ensures .0) (c .before .before .tail-code .ensures) (omega (arith, c .if2 .taken, c .before .code-of .ensures))

@@ -13,15 +13,15 @@ use Rattle.search.proofs.fraction.least_code.Statement.{statement}
 use Rattle.search.proofs.fraction.least_code.Tie as tie
 
 abbrev Inv-loop : tie.InvT-loop
-Inv-loop operand modulus negated ranges low high s b vs ws t spared best₀ k₀ best k = (k ≤ maxPlaces) × (best ≡ partCode k (bounded b (joinedIn (table operand modulus negated ranges low high) s)))
+Inv-loop columns low high s b vs ws t spared best₀ k₀ best k = (k ≤ maxPlaces) × (best ≡ partCode k (bounded b (joinedIn (table columns low high) s)))
 
 abbrev μ-loop : tie.MeasureT-loop
-μ-loop operand modulus negated ranges low high s b vs ws t spared best₀ k₀ best k = maxPlaces - k
+μ-loop columns low high s b vs ws t spared best₀ k₀ best k = maxPlaces - k
 
 loop-holds : tie.Need-loop-holds Inv-loop μ-loop
 loop-holds c =
     let a = c .args in
-    let T = table (a .operand .now) (a .modulus .now) (a .negated .now) (a .ranges .now) (a .low .now) (a .high .now) in
+    let T = table (a .columns .now) (a .low .now) (a .high .now) in
     let x = joinedIn T (a .s) in
     let d = bounded (a .b) x in
     (omega arith, part-start d)
@@ -35,7 +35,7 @@ mul-if1 c = search needs
 returns : tie.Need-returns Inv-loop μ-loop
 returns c =
     let a = c .before .before .before .args in
-    let T = table (a .operand .now) (a .modulus .now) (a .negated .now) (a .ranges .now) (a .low .now) (a .high .now) in
+    let T = table (a .columns .now) (a .low .now) (a .high .now) in
     let x = joinedIn T (a .s) in
     let d = bounded (a .b) x in
     part-stop d (c .before .before .loop .best) (c .before .before .loop .k) (c .before .before .loop .inv .1) (search needs) (search needs)
@@ -55,7 +55,7 @@ loop-less c = search needs
 loop-again : tie.Need-loop-again Inv-loop μ-loop
 loop-again c =
     let a = c .before .before .before .before .before .args in
-    let T = table (a .operand .now) (a .modulus .now) (a .negated .now) (a .ranges .now) (a .low .now) (a .high .now) in
+    let T = table (a .columns .now) (a .low .now) (a .high .now) in
     let x = joinedIn T (a .s) in
     let d = bounded (a .b) x in
     (omega (arith, c .before .before .before .loop-test .taken), part-more d (c .before .before .before .before .loop .best) (c .before .tail-code .result) (c .lesser .result) (c .before .before .before .before .loop .k) (c .before .before .before .before .loop .inv .1) (c .before .tail-code .ensures) (c .lesser .ensures))
@@ -63,7 +63,7 @@ loop-again c =
 returns-2 : tie.Need-returns-2 Inv-loop μ-loop
 returns-2 c =
     let a = c .before .before .args in
-    let T = table (a .operand .now) (a .modulus .now) (a .negated .now) (a .ranges .now) (a .low .now) (a .high .now) in
+    let T = table (a .columns .now) (a .low .now) (a .high .now) in
     let x = joinedIn T (a .s) in
     let d = bounded (a .b) x in
     part-end d (c .before .loop .best) (c .before .loop .k) (c .before .loop .inv .1) (omega (arith, c .before .loop .inv .0, c .loop-test .left))

@@ -15,7 +15,7 @@ least-from-requires c κs = λ x h. absurd (omega arith)
 returns : tie.Need-returns
 returns c =
     let a = c .before .args in
-    let T = table (a .operand .now) (a .modulus .now) (a .negated .now) (a .ranges .now) (a .low .now) (a .high .now) in
+    let T = table (a .columns .now) (a .low .now) (a .high .now) in
     f-is (c .least-from .result) (joinedIn T (a .s)) (c .least-from .ensures ∙ f-ready T (a .s) (c .before .pre .0) (c .before .pre .1))
 
 pub least-f-spec : {M : Type 1} → statement M

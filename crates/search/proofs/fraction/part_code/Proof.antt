@@ -16,7 +16,7 @@ alone-of-requires c κs = search needs
 returns : tie.Need-returns
 returns c =
     let a = c .before .before .args in
-    let T = table (a .operand .now) (a .modulus .now) (a .negated .now) (a .ranges .now) (a .low .now) (a .high .now) in
+    let T = table (a .columns .now) (a .low .now) (a .high .now) in
     let x = joinedIn T (a .s) in
     let d = bounded (a .b) x in
     part-none d (c .before .alone-of .result) (c .before .alone-of .ensures ∙ bounded-alone (a .b) x) (search needs)
@@ -33,7 +33,7 @@ spares-f-requires c κs = search needs
 least-code-requires : tie.Need-least-code-requires
 least-code-requires c κs =
     let a = c .before .before .before .before .before .before .args in
-    let T = table (a .operand .now) (a .modulus .now) (a .negated .now) (a .ranges .now) (a .low .now) (a .high .now) in
+    let T = table (a .columns .now) (a .low .now) (a .high .now) in
     let x = joinedIn T (a .s) in
     let d = bounded (a .b) x in
     ((c .before .before .before .before .before .before .pre .0 .0, c .before .before .before .before .before .before .pre .0 .1, c .before .before .before .before .before .alone-of .ensures, sym (c .if2 .taken) ∙ c .before .spares-f .ensures d (c .before .before .before .before .before .before .pre .1)), profile-settled d (a .p) (c .before .before .before .before .before .before .pre .1) _ _ (c .before .before .before .v-of .ensures) (c .before .before .w-of .ensures))
@@ -44,7 +44,7 @@ returns-2 c = search needs
 asked-code-requires : tie.Need-asked-code-requires
 asked-code-requires c κs =
     let a = c .before .before .before .before .before .before .args in
-    let T = table (a .operand .now) (a .modulus .now) (a .negated .now) (a .ranges .now) (a .low .now) (a .high .now) in
+    let T = table (a .columns .now) (a .low .now) (a .high .now) in
     let x = joinedIn T (a .s) in
     let d = bounded (a .b) x in
     ((c .before .before .before .before .before .before .pre .0 .0, c .before .before .before .before .before .before .pre .0 .1, c .before .before .before .before .before .alone-of .ensures, sym (c .if2 .left) ∙ c .before .spares-f .ensures d (c .before .before .before .before .before .before .pre .1)), profile-settled d (a .p) (c .before .before .before .before .before .before .pre .1) _ _ (c .before .before .before .v-of .ensures) (c .before .before .w-of .ensures))

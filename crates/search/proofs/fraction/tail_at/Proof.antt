@@ -19,7 +19,7 @@ lesser-requires : tie.Need-lesser-requires
 lesser-requires c κs = search needs
 
 returns : tie.Need-returns
-returns c = let a = c .before .before .before .args in let T = table (a .operand .now) (a .modulus .now) (a .negated .now) (a .ranges .now) (a .low .now) (a .high .now) in tail-once (joinedIn T (a .s)) (a .k) (a .t) (c .before .power .result) (c .lesser .result) (asksOf 102 (joinedIn T (a .s))) (c .before .before .before .pre .0) (c .before .before .before .pre .3) refl (not-true _ (sym (c .before .before .before .pre .4) ∙ c .before .before .if1 .taken)) (c .before .power .ensures) (c .lesser .ensures)
+returns c = let a = c .before .before .before .args in let T = table (a .columns .now) (a .low .now) (a .high .now) in tail-once (joinedIn T (a .s)) (a .k) (a .t) (c .before .power .result) (c .lesser .result) (asksOf 102 (joinedIn T (a .s))) (c .before .before .before .pre .0) (c .before .before .before .pre .3) refl (not-true _ (sym (c .before .before .before .pre .4) ∙ c .before .before .if1 .taken)) (c .before .power .ensures) (c .lesser .ensures)
 
 tail-of-requires : tie.Need-tail-of-requires
 tail-of-requires c κs = search needs

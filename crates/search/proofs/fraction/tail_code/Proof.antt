@@ -16,7 +16,7 @@ settled-places-requires c κs = search needs
 returns : tie.Need-returns
 returns c =
     let a = c .before .before .args in
-    let T = table (a .operand .now) (a .modulus .now) (a .negated .now) (a .ranges .now) (a .low .now) (a .high .now) in
+    let T = table (a .columns .now) (a .low .now) (a .high .now) in
     tail-unsettled (a .k) (c .before .before .pre .0 .0) (bounded (a .b) (joinedIn T (a .s))) (c .before .settled-places .result) (c .before .settled-places .ensures (bounded (a .b) (joinedIn T (a .s))) (c .before .before .pre .1)) (search needs)
 
 tail-at-requires : tie.Need-tail-at-requires
@@ -28,7 +28,7 @@ tail-places-requires c κs = search needs
 returns-2 : tie.Need-returns-2
 returns-2 c =
     let a = c .before .before .before .before .before .args in
-    let T = table (a .operand .now) (a .modulus .now) (a .negated .now) (a .ranges .now) (a .low .now) (a .high .now) in
+    let T = table (a .columns .now) (a .low .now) (a .high .now) in
     tail-none (a .k) (c .before .before .before .before .before .pre .0 .0) (bounded (a .b) (joinedIn T (a .s))) (c .before .before .tail-at .result) (c .before .tail-places .result) (c .before .before .tail-at .ensures ∙ bounded-tail (a .b) (joinedIn T (a .s)) (a .k)) (c .before .tail-places .ensures .0 (bounded (a .b) (joinedIn T (a .s))) (c .before .before .before .before .before .pre .1)) (search needs)
 
 mul-result : tie.Need-mul-result
@@ -40,19 +40,19 @@ power-requires c κs = search needs
 mul-result-2 : tie.Need-mul-result-2
 mul-result-2 c =
     let a = c .before .before .before .before .before .before .args in
-    let T = table (a .operand .now) (a .modulus .now) (a .negated .now) (a .ranges .now) (a .low .now) (a .high .now) in
+    let T = table (a .columns .now) (a .low .now) (a .high .now) in
     omega (arith, tail-room (a .k) (c .before .before .before .before .before .before .pre .0 .0) (bounded (a .b) (joinedIn T (a .s))) (c .before .before .before .tail-at .result) (c .power .result) (c .before .before .before .tail-at .ensures ∙ bounded-tail (a .b) (joinedIn T (a .s)) (a .k)) (c .power .ensures))
 
 add-result : tie.Need-add-result
 add-result c =
     let a = c .before .before .before .before .before .before .args in
-    let T = table (a .operand .now) (a .modulus .now) (a .negated .now) (a .ranges .now) (a .low .now) (a .high .now) in
+    let T = table (a .columns .now) (a .low .now) (a .high .now) in
     omega (arith, c .before .before .tail-places .ensures .1, tail-room (a .k) (c .before .before .before .before .before .before .pre .0 .0) (bounded (a .b) (joinedIn T (a .s))) (c .before .before .before .tail-at .result) (c .power .result) (c .before .before .before .tail-at .ensures ∙ bounded-tail (a .b) (joinedIn T (a .s)) (a .k)) (c .power .ensures))
 
 returns-3 : tie.Need-returns-3
 returns-3 c =
     let a = c .before .before .before .before .before .before .args in
-    let T = table (a .operand .now) (a .modulus .now) (a .negated .now) (a .ranges .now) (a .low .now) (a .high .now) in
+    let T = table (a .columns .now) (a .low .now) (a .high .now) in
     tail-some (a .k) (c .before .before .before .before .before .before .pre .0 .0) (bounded (a .b) (joinedIn T (a .s))) (c .before .before .before .tail-at .result) (c .before .before .tail-places .result) (c .power .result) (c .before .before .before .tail-at .ensures ∙ bounded-tail (a .b) (joinedIn T (a .s)) (a .k)) (c .before .before .tail-places .ensures .0 (bounded (a .b) (joinedIn T (a .s))) (c .before .before .before .before .before .before .pre .1)) (search needs) (c .power .ensures)
 
 pub tail-code-spec : {M : Type 1} → statement M

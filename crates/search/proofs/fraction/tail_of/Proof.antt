@@ -21,14 +21,14 @@ power-requires-2 c κs = search needs
 least-from-requires : tie.Need-least-from-requires
 least-from-requires c κs =
     let a = c .before .before .args in
-    let T = table (a .operand .now) (a .modulus .now) (a .negated .now) (a .ranges .now) (a .low .now) (a .high .now) in
+    let T = table (a .columns .now) (a .low .now) (a .high .now) in
     below-tail (joinedIn T (a .s)) (a .k) (c .before .power .result) (a .least) (c .before .power .ensures) (below-alone (joinedIn T (a .s)) (a .least) (c .before .before .pre .3))
 
 returns : tie.Need-returns
 returns c =
     let a = c .before .before .before .args in
     let p = c .before .before .before .pre in
-    let T = table (a .operand .now) (a .modulus .now) (a .negated .now) (a .ranges .now) (a .low .now) (a .high .now) in
+    let T = table (a .columns .now) (a .low .now) (a .high .now) in
     tail-is (a .k) (c .before .before .power .result) (c .before .power2 .result) (c .least-from .result) (joinedIn T (a .s)) (c .before .before .power .ensures) (c .before .power2 .ensures)
     (c .least-from .ensures ∙ tail-ready T (a .s) (a .k) (c .before .before .power .result) (c .before .power2 .result) (p .1) (p .2) (p .0) (c .before .before .power .ensures) (c .before .power2 .ensures))
 
