@@ -15,6 +15,7 @@ use answer::Witness;
 use clash_laws::Bounds;
 use clash_laws::Span;
 use decimal::Places;
+use decimal::num::further;
 use search::limits;
 use search::order;
 
@@ -43,13 +44,6 @@ pub fn relations_stop(ends: &[usize; 40], k: usize) -> usize
     } else {
         MAX_RELATIONS
     }
-}
-
-// The further of two places.
-fn further(a: usize, b: usize) -> usize
-    ensures { λ r. ⌜ r ≡ max a b ⌝ }
-{
-    if a < b { b } else { a }
 }
 
 // Where the clauses of the rule p begin, and where they end.
