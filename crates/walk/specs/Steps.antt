@@ -68,7 +68,7 @@ nothing = record { relation = false; clause = false; rule = false }
 abbrev pub endsBare : Text → Closes
 endsBare t = record { relation = false; clause = false; rule = same t semi }
 
--- behind a value or range: a relation, before `or` a clause with it, and before `;` a rule too
+-- behind a value or range: `and` a relation, `or` a clause with it, and `;` a rule too
 abbrev pub endsRelation : Text → Closes
 endsRelation t =
     record {
