@@ -137,9 +137,9 @@ module _ (d : List RuleTree) (c : Counts) (o : Current) (a : Arrays) (at p : ℕ
   abbrev Then : Phase → Text → Far → Type 0
   Then u t q =
       let b = samePhase u Value in
-      let d = countsAfter c b (closesAt u t) in
-      HoldsAt (q .rules) (q .state) d (currentAfter o u t (valueAt u t) (keyAfter u t (o .key)))
-      (filled b (samePhase u Upper) (valueAt u t) (closesAt u t) c d o a) (suc p)
+      let n = countsAfter c b (closesAt u t) in
+      HoldsAt (q .rules) (q .state) n (currentAfter o u t (valueAt u t) (keyAfter u t (o .key)))
+      (filled b (samePhase u Upper) (valueAt u t) (closesAt u t) c n o a) (suc p)
 
   abbrev here : State → Far
   here s = record { rules = d; state = s }
