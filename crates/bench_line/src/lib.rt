@@ -13,6 +13,7 @@ ghost use Rattle.print.specs.Outcome.{outcome};
 use answer::FigureList;
 use answer::Keyword;
 use answer::Refusal;
+use decimal::num::wide_byte;
 use line::JobCut;
 use line::MAX_LINE;
 use line::read_job;
@@ -54,19 +55,13 @@ fn append_figures(out: &mut [u8], at: usize, f: FigureList) -> usize
     end
 }
 
-fn wide(x: u8) -> u64
-    ensures { λ r. ⌜ r ≡ x ⌝ }
-{
-    x as u64
-}
-
 // Appends the letter of a job, `!`, and the number and figures of a refusal.
 fn append_refusal(out: &mut [u8], at: usize, letter: u8, refusal: Refusal) -> usize
     ensures { λ r. ⌜ Wrote (now (out .entry)) at (refusalText letter refusal) (now (out .exit)) r ⌝ }
 {
     let name = area::put(out, at, letter);
     let mark = area::put(out, name, 33);
-    let number = append_spaced(out, mark, wide(answer::number(refusal)));
+    let number = append_spaced(out, mark, wide_byte(answer::number(refusal)));
     let figures = append_figures(out, number, answer::figures(refusal));
     area::put(out, figures, 10)
 }

@@ -9,6 +9,7 @@ ghost use Rattle.rules.specs.Stretch.{table, clauseAt};
 use crate::joined;
 use clash_laws::Floors;
 use clash_laws::Span;
+use decimal::num::greater;
 use rules::from_at;
 use search::order;
 
@@ -64,7 +65,7 @@ fn higher(floors: &[u64; 40], k: usize, l: usize) -> u64
     requires { ⌜ (k < 40) × (l < 40) ⌝ }
     ensures { λ r. ⌜ r ≡ max (getD (now (floors .entry)) k 0) (getD (now (floors .entry)) l 0) ⌝ }
 {
-    order::greater(floors[k], floors[l])
+    greater(floors[k], floors[l])
 }
 
 // The floors of the clauses k and l joined: what one of them does not allow, both do not.

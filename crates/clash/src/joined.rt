@@ -15,12 +15,13 @@ use answer::Witness;
 use clash_laws::Bounds;
 use clash_laws::Span;
 use decimal::Places;
+use decimal::num::further;
 use search::limits;
 use search::order;
 
-const MAX_RELATIONS: usize = 320;
+const RELATION_ROOM: usize = 320;
 
-const MAX_CLAUSES: usize = 40;
+const CLAUSE_ROOM: usize = 40;
 
 // Where the relations of the clause k begin, and where they end.
 pub fn relations_start(ends: &[usize; 40], k: usize) -> usize
@@ -38,18 +39,11 @@ pub fn relations_stop(ends: &[usize; 40], k: usize) -> usize
     ensures { λ r. ⌜ r ≡ min (getD (now (ends .entry)) k 0) 320 ⌝ }
 {
     let end = ends[k];
-    if end < MAX_RELATIONS {
+    if end < RELATION_ROOM {
         end
     } else {
-        MAX_RELATIONS
+        RELATION_ROOM
     }
-}
-
-// The further of two places.
-fn further(a: usize, b: usize) -> usize
-    ensures { λ r. ⌜ r ≡ max a b ⌝ }
-{
-    if a < b { b } else { a }
 }
 
 // Where the clauses of the rule p begin, and where they end.
@@ -68,7 +62,7 @@ fn clauses_stop(ends: &[usize; 6], p: usize) -> usize
     ensures { λ r. ⌜ r ≡ min (getD (now (ends .entry)) p 0) 40 ⌝ }
 {
     let end = ends[p];
-    if end < MAX_CLAUSES { end } else { MAX_CLAUSES }
+    if end < CLAUSE_ROOM { end } else { CLAUSE_ROOM }
 }
 
 // Past the clauses that the first n rules have.

@@ -4,6 +4,7 @@
 // (specs/Digits.antt), exact below 10^18 and kept at 10^18 from there on.
 pub mod cut;
 pub mod figure;
+pub mod num;
 pub mod scan;
 pub mod value;
 

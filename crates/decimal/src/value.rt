@@ -8,7 +8,7 @@ ghost use Rattle.decimal.specs.Digits.{valueFrom, value, first, cap};
 const CAP: u64 = 1_000_000_000_000_000_000;
 
 // The digit's value; 0 of a byte below `0`.
-fn digit_value(b: u8) -> u64
+pub fn digit_value(b: u8) -> u64
     ensures { λ r. ⌜ r ≡ b - 48 ⌝ }
 {
     if b < 48 {

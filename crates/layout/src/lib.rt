@@ -38,24 +38,6 @@ fn less(a: usize, b: usize) -> usize
     a - b
 }
 
-fn greater(a: usize, b: usize) -> usize
-    ensures { λ r. ⌜ r ≡ max a b ⌝ }
-{
-    if a < b {
-        return b;
-    }
-    a
-}
-
-fn fewer(a: usize, b: usize) -> usize
-    ensures { λ r. ⌜ r ≡ min a b ⌝ }
-{
-    if a < b {
-        return a;
-    }
-    b
-}
-
 fn symbol_of(m: Mark) -> Symbol
     ensures { λ r. ⌜ r ≡ symbolOf m ⌝ }
 {
@@ -227,14 +209,17 @@ fn whole_shown(least: usize, most: usize, d: &[u8]) -> &[u8]
 {
     let s = decimal::cut::upto(d, less(d.len(), most));
     let zeros = decimal::scan::leading_zeros(s);
-    decimal::cut::after(s, fewer(zeros, less(s.len(), least)))
+    decimal::cut::after(s, decimal::num::fewer(zeros, less(s.len(), least)))
 }
 
 fn fraction_shown(least: usize, most: usize, d: &[u8]) -> &[u8]
     ensures { λ r. ⌜ now r ≡ fractionDigits least most (now (d .entry)) ⌝ }
 {
     let s = decimal::cut::after(d, less(d.len(), most));
-    decimal::cut::upto(s, greater(least, decimal::scan::trimmed_len(s)))
+    decimal::cut::upto(
+        s,
+        decimal::num::further(least, decimal::scan::trimmed_len(s)),
+    )
 }
 
 fn append_number(out: &mut [u8], at: usize, house: &[u8], p: Pattern, d: &[u8]) -> usize

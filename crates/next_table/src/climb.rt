@@ -5,17 +5,8 @@ ghost use Rattle.least.specs.Segments.{first, upTo, wrap, climb};
 ghost use Rattle.clash_laws.specs.Read.{cap};
 ghost use Rattle.next_table.specs.Table.{Small, segmentsIn, climbIn};
 ghost use lib.ListN.{getD};
-use runs::range::wide;
-
-// a - b, or 0 where b is larger.
-fn less_by(a: u64, b: u64) -> u64
-    ensures { λ r. ⌜ r ≡ a - b ⌝ }
-{
-    if a < b {
-        return 0;
-    }
-    a - b
-}
+use decimal::num::less_by;
+use decimal::num::wide;
 
 // Where the first segment from place k on starts, or m where there is none before place `to`.
 fn start_from(starts: &[u32; 288], ends: &[u32; 288], k: usize, to: usize, m: u64) -> u64

@@ -12,13 +12,8 @@ use crate::Found;
 use crate::next;
 use clash_laws::Query;
 use clash_laws::Span;
+use decimal::num::lesser;
 use runs::clause::clause_run;
-
-fn lesser(a: u64, b: u64) -> u64
-    ensures { λ r. ⌜ r ≡ min a b ⌝ }
-{
-    if a < b { a } else { b }
-}
 
 // Looks at the run of p. Where the relations of the level do not hold, its end is where to go on; where
 // they do, the next number of the levels below j is: it is found where it lies in the run.

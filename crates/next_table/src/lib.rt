@@ -30,7 +30,7 @@ pub enum Built {
     Full,
 }
 
-const RELATIONS: usize = 320;
+const RELATION_ROOM: usize = 320;
 
 // 10^18: no value that is compared is above it
 const CAP: u64 = 1_000_000_000_000_000_000;
@@ -45,10 +45,10 @@ fn is_ready(s: Span, q: Query, lo: u64, hi: u64) -> bool
     if hi < lo {
         return false;
     }
-    if RELATIONS < s.to {
+    if RELATION_ROOM < s.to {
         return false;
     }
-    if RELATIONS < s.stop {
+    if RELATION_ROOM < s.stop {
         return false;
     }
     if 1 < q.n {

@@ -9,6 +9,7 @@ ghost use lib.ListN.{length, getD, drop};
 ghost use Rattle.numberpart.specs.Shape.{find, between, count, misplaced, seenAfter, ordered, badComma, apart, wholeFits, hashes, fractionFits, numberFits, last, primaryOf, secondaryOf, unit, unitsFrom, stepOf, shapeOf, stepCap, capped};
 use decimal::cut;
 use decimal::scan;
+use decimal::value::digit_value;
 
 const STEP_CAP: u64 = 1_000_000;
 
@@ -226,16 +227,6 @@ fn kept(n: u64) -> u64
         return n;
     }
     STEP_CAP
-}
-
-// The digit's value; 0 of a byte below `0`.
-fn digit_value(b: u8) -> u64
-    ensures { λ r. ⌜ r ≡ b - 48 ⌝ }
-{
-    if b < 48 {
-        return 0;
-    }
-    (b - 48) as u64
 }
 
 fn units(s: &[u8]) -> u64

@@ -1,10 +1,10 @@
--- Laws of the board: what is made of parts as defined is as defined, and one piece of the text more.
+-- Laws of the board: one piece of the text more.
 use mathlib.Core.Path.{_≡_, refl, sym, ap, _∙_, subst}
 use mathlib.Core.Bool.{Bool, true, false}
 use mathlib.Core.List.{List, []}
 use Prim.Native.Nat.{ℕ, _+_, _-_, _≤_, _<_}
 use native.Mathlib.Omega.{arith}
-use lib.Dec.{eqb, ltb}
+use lib.Dec.{ltb}
 use lib.ListN.{length, take, drop, drop-of-length-le, length-drop}
 use lib.Seq.{drop-drop}
 use borrow.Author.Tests.{lt-ltb, le-ltb, ltb-true, ltb-false}
@@ -14,38 +14,10 @@ use Rattle.token.specs.Token.{whiteLen, tokenLen, pieceLen, isWhite, Token, tok
 use Rattle.token.proofs.Pieces.{piece, pieced, tokens-turn, no-tokens}
 use Rattle.grammar.specs.Limits.{maxBytes}
 use Rattle.grammar.specs.Grammar.{Text}
-use Rattle.phase.specs.Next.{phaseNumber}
-use Rattle.walk.specs.Steps.{capped, valueAt, closesAt, countsAfter, walkWith, stepAfter}
-use Rattle.walk.specs.declared.Counts.{Counts}
-use Rattle.walk.specs.declared.Closes.{Closes}
-use Rattle.walk.specs.declared.Current.{Current}
+use Rattle.walk.specs.Steps.{stepAfter}
 use Rattle.walk.specs.declared.Walk.{Walk}
 use Rattle.walk.specs.declared.Step.{Step}
-use Rattle.walk.proofs.Walks.{walk-value}
 use Rattle.pack.specs.Board.{Arrays, arraysOf, setIf, setRowIf, rowFor, filled, Board, tokenAt, boardAfter, boards, startWalk, within4096}
-
-pub filled-is : (k v : ℕ) (x : Closes) (c d : Counts) (o : Current) (a : Arrays) {low high columns relations keyword clauses : List ℕ}
-    → low ≡ setIf (eqb k 7) (a .low) (c .ranges) v
-    → high ≡ setIf (eqb k 9) (setIf (eqb k 7) (a .high) (c .ranges) v) (c .ranges - 1) v
-    → columns ≡ setRowIf (x .relation) (a .columns) (c .relations) (rowFor o (c .ranges))
-    → relations ≡ setIf (x .clause) (a .relations) (c .clauses) (d .relations)
-    → keyword ≡ setIf (x .rule) (a .keyword) (c .rules) (o .key)
-    → clauses ≡ setIf (x .rule) (a .clauses) (c .rules) (d .clauses)
-    → arraysOf low high columns relations keyword clauses ≡ filled k v x c d o a
-filled-is k v x c d o a e1 e2 e3 e4 e5 e6 = rw (e1, e2, e3, e4, e5, e6)
-
--- only a phase that has a number next looks at the value
-filled-value : (k : ℕ) (t : Text) (x : Closes) (c d : Counts) (o : Current) (a : Arrays) → filled k (valueAt k t) x c d o a ≡ filled k (capped t) x c d o a
-filled-value k t x c d o a =
-    tested (eqb k 5) (λ p. rw p) (λ p. tested (eqb k 7) (λ q. rw (p, q)) (λ q. tested (eqb k 9) (λ r. rw (p, q, r)) (λ r. rw (p, q, r))))
-
-pub board-is : (b : Board) (t : Text) (at : ℕ) {k v : ℕ} {x : Closes} {q : Walk} {a : Arrays}
-    → k ≡ phaseNumber (b .walk .phase) → v ≡ valueAt k t → x ≡ closesAt k t → q ≡ walkWith t at (b .arrays .keyword) (b .walk) v x
-    → a ≡ filled k v x (b .walk .counts) (q .counts) (b .walk .current) (b .arrays) → record { walk = q; arrays = a } ≡ boardAfter b t at
-board-is b t at hk hv hx hq ha =
-    let w = b .walk in
-    let k = phaseNumber (w .phase) in
-    rw (ha, hq, hx, hv, hk, walk-value t at (b .arrays .keyword) w (closesAt k t), filled-value k t (closesAt k t) (w .counts) (countsAfter (w .counts) (eqb k 7) (closesAt k t)) (w .current) (b .arrays))
 
 -- ---- one piece more
 
@@ -185,22 +157,13 @@ pub takes : {s end : Text} {first a : Arrays} {at : ℕ} {w : Walk} → Stands s
     → Stands s end first next (g .walk) (arraysOf low twice columns relations keyword clauses)
 takes {s} {end} {first} {a} {at} {w} i t m next {less} {low} {high} {twice} {columns} {relations} {keyword} {clauses} ht hm h hs hl g hg e1 e2 e3 e4 e5 e6 e7 =
     let b : Board = record { walk = w; arrays = a } in
-    let k = phaseNumber (w .phase) in
-    let c = w .counts in
-    let o = w .current in
-    let f =
-    filled-is k (valueAt k t) (closesAt k t) c (stepAfter t at (a .keyword) w .walk .counts) o a
-    (e1 ∙ ap (λ (y : Step). setIf (y .starts) (a .low) (c .ranges) (y .value)) hg)
-    (e3 ∙ ap (λ (l : List ℕ). setIf (g .ends) l less (g .value)) e2 ∙ ap (λ (n : ℕ). setIf (g .ends) (setIf (g .starts) (a .high) (c .ranges) (g .value)) n (g .value)) hl
-    ∙ ap (λ (y : Step). setIf (y .ends) (setIf (y .starts) (a .high) (c .ranges) (y .value)) (c .ranges - 1) (y .value)) hg)
-    (e4 ∙ ap (λ (y : Step). setRowIf (y .closes .relation) (a .columns) (c .relations) (rowFor o (c .ranges))) hg)
-    (e5 ∙ ap (λ (y : Step). setIf (y .closes .clause) (a .relations) (c .clauses) (y .walk .counts .relations)) hg)
-    (e6 ∙ ap (λ (y : Step). setIf (y .closes .rule) (a .keyword) (c .rules) (o .key)) hg)
-    (e7 ∙ ap (λ (y : Step). setIf (y .closes .rule) (a .clauses) (c .rules) (y .walk .counts .clauses)) hg) in
-    let r = board-is b t at {k = k} {v = valueAt k t} {x = closesAt k t} {q = stepAfter t at (a .keyword) w .walk} refl refl refl refl f in
+    let fill : Step → Arrays = λ y. filled (y .starts) (y .ends) (y .value) (y .closes) (w .counts) (y .walk .counts) (w .current) a in
+    let f : arraysOf low twice columns relations keyword clauses ≡ fill g = rw (e1, e3, e2, hl, e4, e5, e6, e7) in
+    let r : record { walk = g .walk; arrays = arraysOf low twice columns relations keyword clauses } ≡ boardAfter b t at =
+    _∙_ {b = record { walk = g .walk; arrays = fill g }} (ap (λ (x : Arrays). record { walk = g .walk; arrays = x }) f)
+    (ap (λ (y : Step). record { walk = y .walk; arrays = fill y }) hg) in
     let z = onward b _ s end at m next (r ∙ ap (λ (y : Text). boardAfter b y at) ht) (i .none) hm h hs in
-    subst (λ (y : Walk). Stands s end first next y (arraysOf low twice columns relations keyword clauses)) (sym (ap (λ (y : Step). y .walk) hg))
-    (record { within = z .within; none = hs .none; rest = z .rest ∙ i .rest })
+    record { within = z .within; none = hs .none; rest = z .rest ∙ i .rest }
 
 pub stands-last : {s end : Text} {first a : Arrays} {at : ℕ} {w : Walk} → Stands s end first at w a → length s < at
     → record { walk = w; arrays = a } ≡ boardAfter (boards (record { walk = startWalk; arrays = first }) (tokens 0 s)) end (length s)

@@ -4,7 +4,6 @@ use mathlib.Core.Bool.{Bool, false}
 use mathlib.Core.List.{List, [], _∷_, _++_, map, append-nil}
 use Prim.Native.Nat.{ℕ, suc, _+_, _*_, _≤_, _<_}
 use native.Mathlib.Omega.{arith}
-use lib.Dec.{eqb}
 use lib.ListN.{length, replicate, length-replicate}
 use Rattle.rules.specs.Syntax.{Range, Relation, Rule}
 use Rattle.token.specs.Token.{tokens}
@@ -22,8 +21,9 @@ use Rattle.grammar.specs.Reader.PackAnswer.{Rules}
 use Rattle.grammar.specs.WellFormed.{texts}
 use Rattle.grammar.proofs.Viable.{far, outset, closed, halt}
 use Rattle.grammar.specs.Reader.Parsed.{Trees}
-use Rattle.phase.specs.Next.{phaseNumber}
+use Rattle.phase.specs.Next.{samePhase}
 use Rattle.phase.specs.declared.Phase.{Phase}
+use Rattle.phase.specs.declared.Phase.the-variants.{Value}
 use Rattle.phase.proofs.Phases.{phaseOf}
 use Rattle.walk.specs.Steps.{moreIf}
 use Rattle.grammar.proofs.Exact.{ended}
@@ -57,7 +57,7 @@ cut-whole e = absurd (let z : _≡_ {A = ℕ} 0 1 = cc in omega arith)
 
 -- where a rule may end there is a byte to spare, and no value is wanted
 whole-spare : (d : List RuleTree) (s : State) (c : Counts) (o : Current) (a : Arrays) (at : ℕ) (r : RuleTree) → HoldsAt d s c o a at → ends s ≡ Whole r
-    → (2 * c .ranges + 1 ≤ at) × (eqb (phaseNumber (phaseOf s)) 7 ≡ false)
+    → (2 * c .ranges + 1 ≤ at) × (samePhase (phaseOf s) Value ≡ false)
 whole-spare d WantsName c o a at r h e = cut-whole e
 whole-spare d (WantsColon k) c o a at r h e = cut-whole e
 whole-spare d (WantsNothing k) c o a at r h e = (h .2, refl)
@@ -120,7 +120,7 @@ module _ (a : Arrays) (z : Sized a) (s : Text) (rs : List Rule) where
       let y = whole-clean (p .rules) (p .state) (n .0) (n .1) in
       let k : orElse (faults outset ts) (faultAt (faultOn p semi) (length s)) ≡ None = ap (λ (m : ℕ). orElse (faults outset ts) (faultAt m (length s))) y ∙ rw f in
       let h = subst (λ (x : Read). HoldsAt (closed (p .rules) x .rules) (closed (p .rules) x .state) (lastBoard a s .walk .counts) (lastBoard a s .walk .current) (lastBoard a s .arrays) (suc (length s))) (n .1) (t .holds k) in
-      let c : lastBoard a s .walk .counts .ranges ≡ b .walk .counts .ranges = ap (λ (x : Phase). moreIf (eqb (phaseNumber x) 7) (b .walk .counts .ranges)) (g .2 .phase) ∙ ap (λ (x : Bool). moreIf x (b .walk .counts .ranges)) (w .1) in
+      let c : lastBoard a s .walk .counts .ranges ≡ b .walk .counts .ranges = ap (λ (x : Phase). moreIf (samePhase x Value) (b .walk .counts .ranges)) (g .2 .phase) ∙ ap (λ (x : Bool). moreIf x (b .walk .counts .ranges)) (w .1) in
       subst Bounds (ap (map ruleOf) (sym (n .2)) ∙ sym q)
       (held-bounds (p .rules ++ (n .0 ∷ [])) (lastBoard a s .walk .counts) (lastBoard a s .arrays) (suc (length s)) h (omega (arith, w .0, g .1)))
 

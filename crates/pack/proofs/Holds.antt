@@ -243,8 +243,8 @@ module _ (d : List RuleTree) (f : Front) (h : HeadTree) (vs : List RangeTree) (v
   abbrev pub andFront : Front
   andFront = record { name = f .name; clauses = f .clauses; relations = f .relations ++ (Rel h vs v ∷ []) }
 
-  pub close-and : (n p : ℕ) → at ≤ p → Base d andFront [] (after (closes true false false) c) (filled 8 n (closes true false false) c (after (closes true false false) c) o a) (suc p)
-  close-and n p l =
+  pub close-and : (p : ℕ) → at ≤ p → Base d andFront [] (after (closes true false false) c) (filled false false 0 (closes true false false) c (after (closes true false false) c) o a) (suc p)
+  close-and p l =
       let b = w .base in
       let z = b .sized in
       let e : Rs d andFront ≡ Rs d f ++ (relation ∷ []) = R-and (Cs d f) (f .relations) (Rel h vs v) ∙ ap (λ (r : Relation). Rs d f ++ (r ∷ [])) R-one in
@@ -306,9 +306,9 @@ module _ (d : List RuleTree) (f : Front) (h : HeadTree) (vs : List RangeTree) (v
   abbrev pub orFront : Front
   orFront = record { name = f .name; clauses = f .clauses ++ (Joined (f .relations) (Rel h vs v) ∷ []); relations = [] }
 
-  pub close-or : (n p : ℕ) → at ≤ p → Base d orFront [] (after (closes true true false) c) (filled 8 n (closes true true false) c (after (closes true true false) c) o a) (suc p)
+  pub close-or : (p : ℕ) → at ≤ p → Base d orFront [] (after (closes true true false) c) (filled false false 0 (closes true true false) c (after (closes true true false) c) o a) (suc p)
   unfolding clause
-  close-or n p l =
+  close-or p l =
       let b = w .base in
       let z = b .sized in
       let j : Cs d orFront ≡ Cs d f ++ (clause ∷ []) = C-or d (f .clauses) (Joined (f .relations) (Rel h vs v)) in
@@ -362,9 +362,9 @@ module _ (d : List RuleTree) (f : Front) (h : HeadTree) (vs : List RangeTree) (v
       subst (λ (x : List ℕ). Rules (set (a .keyword) (c .rules) (o .key)) (set (a .clauses) (c .rules) (moreOf (c .clauses))) (moreOf (c .rules)) x (Ds more)) e
       (subst (λ (x : List Rule). Rules (set (a .keyword) (c .rules) (o .key)) (set (a .clauses) (c .rules) (moreOf (c .clauses))) (moreOf (c .rules)) (numbers d ++ (o .key ∷ [])) x) g m)
 
-  pub close-semi : (n p : ℕ) → at ≤ p → Base more none [] (after (closes true true true) c) (filled 8 n (closes true true true) c (after (closes true true true) c) o a) (suc p)
+  pub close-semi : (p : ℕ) → at ≤ p → Base more none [] (after (closes true true true) c) (filled false false 0 (closes true true true) c (after (closes true true true) c) o a) (suc p)
   unfolding clause
-  close-semi n p l =
+  close-semi p l =
       let b = w .base in
       let z = b .sized in
       let t = Named (f .name) (f .clauses) (Joined (f .relations) (Rel h vs v)) in
@@ -406,9 +406,9 @@ module _ (d : List RuleTree) (f : Front) (h : HeadTree) (vs : List RangeTree) (v
 
 -- ---- `other:` closed
 
-pub close-bare : (d : List RuleTree) (k : Text) (c : Counts) (o : Current) (a : Arrays) (at n p : ℕ) → Base d none [] c a at → Keyed d k o → at ≤ p
-    → Base (d ++ (Bare k ∷ [])) none [] (after (closes false false true) c) (filled 2 n (closes false false true) c (after (closes false false true) c) o a) (suc p)
-close-bare d k c o a at n p b w l =
+pub close-bare : (d : List RuleTree) (k : Text) (c : Counts) (o : Current) (a : Arrays) (at p : ℕ) → Base d none [] c a at → Keyed d k o → at ≤ p
+    → Base (d ++ (Bare k ∷ [])) none [] (after (closes false false true) c) (filled false false 0 (closes false false true) c (after (closes false false true) c) o a) (suc p)
+close-bare d k c o a at p b w l =
     let z = b .sized in
     let more = d ++ (Bare k ∷ []) in
     let r = ruleOf (Bare k) in
@@ -458,7 +458,7 @@ close-bare d k c o a at n p b w l =
 
 pub add-value : (d : List RuleTree) (f : Front) (vs : List RangeTree) (t : Text) (c : Counts) (o : Current) (a : Arrays) (at n p : ℕ) → Base d f vs c a at
     → n ≡ value t → 2 * c .ranges + 1 ≤ p → p ≤ maxBytes → length vs < 16
-    → Base d f (vs ++ (One t ∷ [])) (countsAfter c true (closes false false false)) (filled 7 n (closes false false false) c (countsAfter c true (closes false false false)) o a) (suc p)
+    → Base d f (vs ++ (One t ∷ [])) (countsAfter c true (closes false false false)) (filled true false n (closes false false false) c (countsAfter c true (closes false false false)) o a) (suc p)
 add-value d f vs t c o a at n p b e l m h =
     let z = b .sized in
     let g : Gs d f (vs ++ (One t ∷ [])) ≡ Gs d f vs ++ (record { low = n; high = n } ∷ []) = G-value d f vs (One t) ∙ ap (λ (x : ℕ). Gs d f vs ++ (record { low = x; high = x } ∷ [])) (sym e) in
@@ -494,7 +494,7 @@ add-value d f vs t c o a at n p b e l m h =
 
 pub add-upper : (d : List RuleTree) (f : Front) (vs : List RangeTree) (x t : Text) (c : Counts) (o : Current) (a : Arrays) (at n p : ℕ)
     → Base d f (vs ++ (One x ∷ [])) c a at → n ≡ value t → at ≤ p → p ≤ maxBytes
-    → Base d f (vs ++ (Span x t ∷ [])) (countsAfter c false (closes false false false)) (filled 9 n (closes false false false) c (countsAfter c false (closes false false false)) o a) (suc p)
+    → Base d f (vs ++ (Span x t ∷ [])) (countsAfter c false (closes false false false)) (filled false true n (closes false false false) c (countsAfter c false (closes false false false)) o a) (suc p)
 add-upper d f vs x t c o a at n p b e l m =
     let z = b .sized in
     let g : Gs d f (vs ++ (Span x t ∷ [])) ≡ Gs d f vs ++ (record { low = value x; high = n } ∷ []) = G-value d f vs (Span x t) ∙ ap (λ (y : ℕ). Gs d f vs ++ (record { low = value x; high = y } ∷ [])) (sym e) in

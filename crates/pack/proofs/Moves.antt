@@ -4,10 +4,10 @@ use mathlib.Core.Bool.{Bool, true, false}
 use mathlib.Core.List.{List, [], _∷_, _++_}
 use Prim.Native.Nat.{ℕ, suc, _+_, _*_, _≤_, _<_}
 use native.Mathlib.Omega.{arith}
-use lib.Dec.{eqb, ltb}
+use lib.Dec.{ltb}
 use lib.ListN.{length, getD, take}
 use borrow.Author.Tests.{ne-eqb, ltb-true, ltb-false}
-use Rattle.decimal.specs.Choice.{if_then_else_, both}
+use Rattle.decimal.specs.Choice.{if_then_else_}
 use Rattle.decimal.specs.Digits.{value}
 use Rattle.decimal.proofs.Choices.{choice, tested, not-both, ltb-same}
 use Rattle.token.specs.Spelling.{same}
@@ -21,13 +21,15 @@ use Rattle.grammar.specs.Grammar.RelationTree.{Rel}
 use Rattle.grammar.specs.Grammar.ClauseTree.{Joined}
 use Rattle.grammar.specs.Grammar.RuleTree.{Named}
 use Rattle.grammar.specs.Steps.{Front, State}
-use Rattle.grammar.specs.Steps.State.{WantsName, WantsColon, WantsNothing, WantsOperand, HasOperand, WantsModulus, HasModulus, WantsValue, HasValue, WantsUpper, HasUpper, Dead}
+use Rattle.grammar.specs.Steps.State.{WantsName, WantsColon, WantsNothing, WantsOperand, HasOperand, WantsModulus, HasModulus, WantsValue, HasValue, WantsUpper, HasUpper, Dead as Died}
 use Rattle.grammar.specs.Reader.{trouble}
 use Rattle.grammar.proofs.Viable.{Far, onward}
 use Rattle.grammar.proofs.Whole.{names, faultOn}
-use Rattle.phase.specs.Next.{phaseNumber}
+use Rattle.phase.specs.Next.{samePhase}
+use Rattle.phase.specs.declared.Phase.{Phase}
+use Rattle.phase.specs.declared.Phase.the-variants.{Name, Colon, Nothing, Operand, ModulusOrSign, Modulus, Sign, Value, DotsOrMore, Upper, More, Dead}
 use Rattle.phase.proofs.Phases.{phaseOf}
-use Rattle.walk.specs.Steps.{capped, held, closesAt, countsAfter, keyAfter, currentAfter, rowAt, moreOf, keywordNumber, nameRow, upperRow}
+use Rattle.walk.specs.Steps.{capped, valueAt, held, closesAt, countsAfter, keyAfter, currentAfter, rowAt, moreOf, keywordNumber, nameRow, upperRow}
 use Rattle.walk.specs.declared.Counts.{Counts}
 use Rattle.walk.specs.declared.Current.{Current}
 use Rattle.pack.specs.Board.{Arrays, filled}
@@ -69,9 +71,9 @@ upper-row t low =
 -- the number of a token's row
 abbrev pub rowOn : State → Counts → Current → Arrays → Text → ℕ
 rowOn s c o a t =
-    let k = phaseNumber (phaseOf s) in
-    let key = keyAfter k t (o .key) in
-    rowAt k key (both (eqb k 0) (held key (take (c .rules) (a .keyword)))) (capped t) c (o .low)
+    let p = phaseOf s in
+    let key = keyAfter p t (o .key) in
+    rowAt p key (held key (take (c .rules) (a .keyword))) (valueAt p t) c (o .low)
 
 -- ROW: 22 to 26 by the board are 22 to 26 by the state
 pub row-is : (d : List RuleTree) (s : State) (c : Counts) (o : Current) (a : Arrays) (at : ℕ) (t : Text) → HoldsAt d s c o a at
@@ -87,7 +89,7 @@ row-is d (WantsValue f g vs) c o a at t h = rw (h .0 .base .values, capped-above
 row-is d (HasValue f g vs x) c o a at t h = refl
 row-is d (WantsUpper f g vs x) c o a at t h = rw (h .3) (upper-row t (value x))
 row-is d (HasUpper f g vs x y) c o a at t h = refl
-row-is d Dead c o a at t h = refl
+row-is d Died c o a at t h = refl
 
 -- ---- what no fault says
 
@@ -132,32 +134,34 @@ at-literal P t w e x = subst P (sym (same-eq t w e)) x
 
 module _ (d : List RuleTree) (c : Counts) (o : Current) (a : Arrays) (at p : ℕ) (l : at ≤ p) (m : p ≤ maxBytes) where
   -- what is to hold behind the token t, with this reading
-  abbrev Then : ℕ → Text → Far → Type 0
-  Then k t q =
-      HoldsAt (q .rules) (q .state) (countsAfter c (eqb k 7) (closesAt k t)) (currentAfter o k t (capped t) (keyAfter k t (o .key)))
-      (filled k (capped t) (closesAt k t) c (countsAfter c (eqb k 7) (closesAt k t)) o a) (suc p)
+  abbrev Then : Phase → Text → Far → Type 0
+  Then u t q =
+      let b = samePhase u Value in
+      let n = countsAfter c b (closesAt u t) in
+      HoldsAt (q .rules) (q .state) n (currentAfter o u t (valueAt u t) (keyAfter u t (o .key)))
+      (filled b (samePhase u Upper) (valueAt u t) (closesAt u t) c n o a) (suc p)
 
   abbrev here : State → Far
   here s = record { rules = d; state = s }
 
   abbrev Next : State → Text → Type 0
-  Next s t = Then (phaseNumber (phaseOf s)) t (onward (here s) t)
+  Next s t = Then (phaseOf s) t (onward (here s) t)
 
   onward-front : {f : Front} {vs : List RangeTree} → FrontIs d f vs c o a at → FrontIs d f vs c o a (suc p)
   onward-front w = record { base = later p l (w .base); keyed = w .keyed; named = w .named }
 
   -- a relation is whole
   module _ (f : Front) (h : HeadTree) (vs : List RangeTree) (v : RangeTree) (w : FrontIs d f (vs ++ (v ∷ [])) c o a at) (z : Small f) (g : HeadIs h o) (r : 2 * c .ranges + 1 ≤ at) where
-    by-and : Then 8 and (here (WantsOperand (record { name = f .name; clauses = f .clauses; relations = f .relations ++ (Rel h vs v ∷ []) })))
-    by-and = record { base = close-and d f h vs v c o a at w z g (omega arith) (capped and) p l; keyed = record { key = w .keyed .key; known = w .keyed .known; new = w .keyed .new }; named = w .named }
+    by-and : Then DotsOrMore and (here (WantsOperand (record { name = f .name; clauses = f .clauses; relations = f .relations ++ (Rel h vs v ∷ []) })))
+    by-and = record { base = close-and d f h vs v c o a at w z g (omega arith) p l; keyed = record { key = w .keyed .key; known = w .keyed .known; new = w .keyed .new }; named = w .named }
 
-    by-or : Then 8 or (here (WantsOperand (record { name = f .name; clauses = f .clauses ++ (Joined (f .relations) (Rel h vs v) ∷ []); relations = [] })))
-    by-or = record { base = close-or d f h vs v c o a at w z g (omega arith) (capped or) p l; keyed = record { key = w .keyed .key; known = w .keyed .known; new = w .keyed .new }; named = w .named }
+    by-or : Then DotsOrMore or (here (WantsOperand (record { name = f .name; clauses = f .clauses ++ (Joined (f .relations) (Rel h vs v) ∷ []); relations = [] })))
+    by-or = record { base = close-or d f h vs v c o a at w z g (omega arith) p l; keyed = record { key = w .keyed .key; known = w .keyed .known; new = w .keyed .new }; named = w .named }
 
-    by-semi : Then 8 semi (record { rules = d ++ (Named (f .name) (f .clauses) (Joined (f .relations) (Rel h vs v)) ∷ []); state = WantsName })
-    by-semi = close-semi d f h vs v c o a at w z g (omega arith) (capped semi) p l
+    by-semi : Then DotsOrMore semi (record { rules = d ++ (Named (f .name) (f .clauses) (Joined (f .relations) (Rel h vs v)) ∷ []); state = WantsName })
+    by-semi = close-semi d f h vs v c o a at w z g (omega arith) p l
 
-    by-comma : Then 8 comma (here (WantsValue f h (vs ++ (v ∷ []))))
+    by-comma : Then DotsOrMore comma (here (WantsValue f h (vs ++ (v ∷ []))))
     by-comma = (record { base = later p l (w .base); keyed = record { key = w .keyed .key; known = w .keyed .known; new = w .keyed .new }; named = w .named }, z, g, omega (arith, r))
 
   keyed-on : {k : Text} {n : Current} → Keyed d k o → n .key ≡ o .key → Keyed d k n
@@ -173,49 +177,49 @@ module _ (d : List RuleTree) (c : Counts) (o : Current) (a : Arrays) (at p : ℕ
   -- MOVE: the board behind a token holds what the state behind it says
   pub move : (s : State) (t : Text) → HoldsAt d s c o a at → faultOn (here s) t ≡ 0 → Next s t
   move WantsName t h e =
-      choice (Then 0 t) (same t semi) (λ _. tt)
-      (λ _. choice (λ (s : State). Then 0 t (here s)) (isWord t)
+      choice (Then Name t) (same t semi) (λ _. tt)
+      (λ _. choice (λ (s : State). Then Name t (here s)) (isWord t)
       (λ _. let w = fresh t (names d) e in (later p l h, record { key = refl; known = w .0; new = w .1 }, omega (arith, h .room)))
       (λ _. tt))
   move (WantsColon k) t h e =
-      choice (Then 1 t) (same t semi) (λ _. tt)
-      (λ _. choice (λ (s : State). Then 1 t (here s)) (same t colon)
-      (λ _. choice (λ (s : State). Then 1 t (here s)) (same k other)
+      choice (Then Colon t) (same t semi) (λ _. tt)
+      (λ _. choice (λ (s : State). Then Colon t (here s)) (same t colon)
+      (λ _. choice (λ (s : State). Then Colon t (here s)) (same k other)
       (λ _. (later p l (h .0), keyed-on (h .1) refl, omega (arith, h .2)))
       (λ q. record { base = begun k (later p l (h .0)); keyed = keyed-on (h .1) refl; named = q }))
       (λ _. tt))
   move (WantsNothing k) t h e =
-      tested (same t semi) (λ q. at-literal (Next (WantsNothing k)) t semi q (close-bare d k c o a at (capped semi) p (h .0) (h .1) l))
-      (λ q. choice (Then 2 t) (same t semi) (λ r. not-both r q) (λ _. tt))
+      tested (same t semi) (λ q. at-literal (Next (WantsNothing k)) t semi q (close-bare d k c o a at p (h .0) (h .1) l))
+      (λ q. choice (Then Nothing t) (same t semi) (λ r. not-both r q) (λ _. tt))
   move (WantsOperand f) t h e =
-      choice (Then 3 t) (same t semi) (λ _. tt)
-      (λ _. choice (λ (s : State). Then 3 t (here s)) (isOperand t) (λ _. (front-on h refl, small f e, refl, refl, omega (arith, h .base .room))) (λ _. tt))
+      choice (Then Operand t) (same t semi) (λ _. tt)
+      (λ _. choice (λ (s : State). Then Operand t (here s)) (isOperand t) (λ _. (front-on h refl, small f e, refl, refl, omega (arith, h .base .room))) (λ _. tt))
   move (HasOperand f x) t h e =
-      choice (Then 4 t) (same t semi) (λ _. tt)
-      (λ _. choice (λ (s : State). Then 4 t (here s)) (same t percent)
+      choice (Then ModulusOrSign t) (same t semi) (λ _. tt)
+      (λ _. choice (λ (s : State). Then ModulusOrSign t (here s)) (same t percent)
       (λ _. (front-on (h .0) refl, h .1, h .2, omega (arith, h .4)))
-      (λ _. choice (λ (s : State). Then 4 t (here s)) (same t equal)
-      (λ q. (front-on (h .0) refl, h .1, head-plain x false (currentAfter o 4 t (capped t) (o .key)) (h .2) (h .3) (ap (λ (u : Text). same u differ) (same-eq t equal q)), omega (arith, h .4)))
-      (λ _. choice (λ (s : State). Then 4 t (here s)) (same t differ)
-      (λ q. (front-on (h .0) refl, h .1, head-plain x true (currentAfter o 4 t (capped t) (o .key)) (h .2) (h .3) q, omega (arith, h .4)))
+      (λ _. choice (λ (s : State). Then ModulusOrSign t (here s)) (same t equal)
+      (λ q. (front-on (h .0) refl, h .1, head-plain x false (currentAfter o ModulusOrSign t 0 (o .key)) (h .2) (h .3) (ap (λ (u : Text). same u differ) (same-eq t equal q)), omega (arith, h .4)))
+      (λ _. choice (λ (s : State). Then ModulusOrSign t (here s)) (same t differ)
+      (λ q. (front-on (h .0) refl, h .1, head-plain x true (currentAfter o ModulusOrSign t 0 (o .key)) (h .2) (h .3) q, omega (arith, h .4)))
       (λ _. tt))))
   move (WantsModulus f x) t h e =
-      choice (Then 5 t) (same t semi) (λ _. tt)
-      (λ _. choice (λ (s : State). Then 5 t (here s)) (isNumber t)
+      choice (Then Modulus t) (same t semi) (λ _. tt)
+      (λ _. choice (λ (s : State). Then Modulus t (here s)) (isNumber t)
       (λ _. (front-on (h .0) refl, h .1, h .2, modulus-exact t (listed (isModulus (value t)) e), omega (arith, h .3)))
       (λ _. tt))
   move (HasModulus f x n) t h e =
-      choice (Then 6 t) (same t semi) (λ _. tt)
-      (λ _. choice (λ (s : State). Then 6 t (here s)) (same t equal)
-      (λ q. (front-on (h .0) refl, h .1, head-modulo x n false (currentAfter o 6 t (capped t) (o .key)) (h .2) (h .3) (ap (λ (u : Text). same u differ) (same-eq t equal q)), omega (arith, h .4)))
-      (λ _. choice (λ (s : State). Then 6 t (here s)) (same t differ)
-      (λ q. (front-on (h .0) refl, h .1, head-modulo x n true (currentAfter o 6 t (capped t) (o .key)) (h .2) (h .3) q, omega (arith, h .4)))
+      choice (Then Sign t) (same t semi) (λ _. tt)
+      (λ _. choice (λ (s : State). Then Sign t (here s)) (same t equal)
+      (λ q. (front-on (h .0) refl, h .1, head-modulo x n false (currentAfter o Sign t 0 (o .key)) (h .2) (h .3) (ap (λ (u : Text). same u differ) (same-eq t equal q)), omega (arith, h .4)))
+      (λ _. choice (λ (s : State). Then Sign t (here s)) (same t differ)
+      (λ q. (front-on (h .0) refl, h .1, head-modulo x n true (currentAfter o Sign t 0 (o .key)) (h .2) (h .3) q, omega (arith, h .4)))
       (λ _. tt)))
   move (WantsValue f g vs) t h e =
       let q = fits-value (ltb maxValue (value t)) (ltb (length vs) maxRanges) e in
       let n = value-exact t (q .0) in
-      choice (Then 7 t) (same t semi) (λ _. tt)
-      (λ _. choice (λ (s : State). Then 7 t (here s)) (isNumber t)
+      choice (Then Value t) (same t semi) (λ _. tt)
+      (λ _. choice (λ (s : State). Then Value t (here s)) (isNumber t)
       (λ _. (
         record {
           base = add-value d f vs t c o a at (capped t) p (h .0 .base) n (omega (arith, h .3)) m (ltb-true (length vs) maxRanges (q .1));
@@ -234,15 +238,15 @@ module _ (d : List RuleTree) (c : Counts) (o : Current) (a : Arrays) (at p : ℕ
       (λ e2. tested (same t and) (λ q. at-literal (Next (HasValue f g vs x)) t and q (by-and f g vs (One x) (h .0) (h .1) (h .2) (h .4)))
       (λ e3. tested (same t or) (λ q. at-literal (Next (HasValue f g vs x)) t or q (by-or f g vs (One x) (h .0) (h .1) (h .2) (h .4)))
       (λ e4. tested (same t semi) (λ q. at-literal (Next (HasValue f g vs x)) t semi q (by-semi f g vs (One x) (h .0) (h .1) (h .2) (h .4)))
-      (λ e5. choice (Then 8 t) (same t semi) (λ q. not-both q e5)
-      (λ _. choice (λ (s : State). Then 8 t (here s)) (same t dots) (λ q. not-both q e1)
-      (λ _. choice (λ (s : State). Then 8 t (here s)) (same t comma) (λ q. not-both q e2)
-      (λ _. choice (λ (s : State). Then 8 t (here s)) (same t and) (λ q. not-both q e3)
-      (λ _. choice (λ (s : State). Then 8 t (here s)) (same t or) (λ q. not-both q e4) (λ _. tt))))))))))
+      (λ e5. choice (Then DotsOrMore t) (same t semi) (λ q. not-both q e5)
+      (λ _. choice (λ (s : State). Then DotsOrMore t (here s)) (same t dots) (λ q. not-both q e1)
+      (λ _. choice (λ (s : State). Then DotsOrMore t (here s)) (same t comma) (λ q. not-both q e2)
+      (λ _. choice (λ (s : State). Then DotsOrMore t (here s)) (same t and) (λ q. not-both q e3)
+      (λ _. choice (λ (s : State). Then DotsOrMore t (here s)) (same t or) (λ q. not-both q e4) (λ _. tt))))))))))
   move (WantsUpper f g vs x) t h e =
       let q = fits-upper (ltb maxValue (value t)) (ltb (value t) (value x)) e in
-      choice (Then 9 t) (same t semi) (λ _. tt)
-      (λ _. choice (λ (s : State). Then 9 t (here s)) (isNumber t)
+      choice (Then Upper t) (same t semi) (λ _. tt)
+      (λ _. choice (λ (s : State). Then Upper t (here s)) (isNumber t)
       (λ _. (
         record {
           base = add-upper d f vs x t c o a at (capped t) p (h .0 .base) (value-exact t q) l m;
@@ -259,8 +263,8 @@ module _ (d : List RuleTree) (c : Counts) (o : Current) (a : Arrays) (at p : ℕ
       (λ e2. tested (same t and) (λ q. at-literal (Next (HasUpper f g vs x y)) t and q (by-and f g vs (Span x y) (h .0) (h .1) (h .2) (h .3)))
       (λ e3. tested (same t or) (λ q. at-literal (Next (HasUpper f g vs x y)) t or q (by-or f g vs (Span x y) (h .0) (h .1) (h .2) (h .3)))
       (λ e4. tested (same t semi) (λ q. at-literal (Next (HasUpper f g vs x y)) t semi q (by-semi f g vs (Span x y) (h .0) (h .1) (h .2) (h .3)))
-      (λ e5. choice (Then 10 t) (same t semi) (λ q. not-both q e5)
-      (λ _. choice (λ (s : State). Then 10 t (here s)) (same t comma) (λ q. not-both q e2)
-      (λ _. choice (λ (s : State). Then 10 t (here s)) (same t and) (λ q. not-both q e3)
-      (λ _. choice (λ (s : State). Then 10 t (here s)) (same t or) (λ q. not-both q e4) (λ _. tt))))))))
-  move Dead t h e = choice (Then 11 t) (same t semi) (λ _. tt) (λ _. tt)
+      (λ e5. choice (Then More t) (same t semi) (λ q. not-both q e5)
+      (λ _. choice (λ (s : State). Then More t (here s)) (same t comma) (λ q. not-both q e2)
+      (λ _. choice (λ (s : State). Then More t (here s)) (same t and) (λ q. not-both q e3)
+      (λ _. choice (λ (s : State). Then More t (here s)) (same t or) (λ q. not-both q e4) (λ _. tt))))))))
+  move Died t h e = choice (Then Dead t) (same t semi) (λ _. tt) (λ _. tt)

@@ -31,10 +31,11 @@ use Rattle.grammar.proofs.Viable.{Far, closed, onward, far, outset, halt, last}
 use Rattle.grammar.proofs.Exact.{ended}
 use Rattle.grammar.proofs.Whole.{faultOn, faults, goes-on, whole-clean, read-whole}
 use Rattle.grammar.proofs.Table.{fault-none}
-use Rattle.phase.specs.Next.{nextPhase, phaseNumber}
+use Rattle.phase.specs.Next.{nextPhase, samePhase}
 use Rattle.phase.specs.declared.Phase.{Phase}
 use Rattle.phase.specs.declared.Phase.the-variants.{Name, Dead}
 use Rattle.phase.proofs.Phases.{phaseOf, Flag, phase-on}
+use Rattle.walk.specs.Steps.{stopAfter}
 use Rattle.walk.specs.declared.Counts.{Counts}
 use Rattle.walk.specs.declared.Current.{Current}
 use Rattle.walk.specs.declared.Mark.{Mark}
@@ -148,19 +149,19 @@ sims (t ∷ ts) b p f at end h g l =
 
 -- ---- where nothing could follow
 
-alive-number : (s : State) → isDead s ≡ false → eqb (phaseNumber (phaseOf s)) 11 ≡ false
-alive-number WantsName e = refl
-alive-number (WantsColon k) e = refl
-alive-number (WantsNothing k) e = refl
-alive-number (WantsOperand f) e = refl
-alive-number (HasOperand f o) e = refl
-alive-number (WantsModulus f o) e = refl
-alive-number (HasModulus f o m) e = refl
-alive-number (WantsValue f h vs) e = refl
-alive-number (HasValue f h vs a) e = refl
-alive-number (WantsUpper f h vs a) e = refl
-alive-number (HasUpper f h vs a b) e = refl
-alive-number Died e = not-both refl e
+alive-phase : (s : State) → isDead s ≡ false → samePhase (phaseOf s) Dead ≡ false
+alive-phase WantsName e = refl
+alive-phase (WantsColon k) e = refl
+alive-phase (WantsNothing k) e = refl
+alive-phase (WantsOperand f) e = refl
+alive-phase (HasOperand f o) e = refl
+alive-phase (WantsModulus f o) e = refl
+alive-phase (HasModulus f o m) e = refl
+alive-phase (WantsValue f h vs) e = refl
+alive-phase (HasValue f h vs a) e = refl
+alive-phase (WantsUpper f h vs a) e = refl
+alive-phase (HasUpper f h vs a b) e = refl
+alive-phase Died e = not-both refl e
 
 dead-phase : (s : State) → isDead s ≡ true → phaseOf s ≡ Dead
 dead-phase WantsName e = not-both e refl
@@ -185,7 +186,7 @@ over-after : (b : Board) (x : ℕ) (t : Text) (q : ℕ) → Over b x → Over (b
 over-after b x t q h =
     record {
       phase = ap (λ (y : Phase). nextPhase y (b .walk .current .other) t) (h .phase);
-      stop = ap (λ (y : Phase). if eqb (phaseNumber y) 11 then b .walk .mark .stop else q) (h .phase) ∙ h .stop;
+      stop = ap (λ (y : Phase). stopAfter y (b .walk .mark .stop) q) (h .phase) ∙ h .stop;
     }
 
 over-boards : (ts : List Token) (b : Board) (x : ℕ) → Over b x → Over (boards b ts) x
@@ -203,7 +204,7 @@ phase-after b p t q e g = ap (λ (y : Phase). nextPhase y (b .walk .current .oth
 
 stop-after : (b : Board) (p : Far) (t : Text) (q : ℕ) → b .walk .phase ≡ phaseOf (p .state) → isDead (p .state) ≡ false → boardAfter b t q .walk .mark .stop ≡ q
 stop-after b p t q e v =
-    ap (λ (y : Phase). if eqb (phaseNumber y) 11 then b .walk .mark .stop else q) e ∙ rw (alive-number (p .state) v)
+    ap (λ (y : Phase). stopAfter y (b .walk .mark .stop) q) e ∙ rw (alive-phase (p .state) v)
 
 outcome : (ts : List Token) (b : Board) (p : Far) (end : ℕ) → b .walk .phase ≡ phaseOf (p .state) → Flag (p .state) (b .walk .current .other) → isDead (p .state) ≡ false
     → Outcome (halt p ts end) (boardAfter (boards b ts) semi end)

@@ -14,9 +14,9 @@ use Rattle.token.specs.Token.{Token, tokens}
 use Rattle.grammar.specs.Limits.{maxBytes}
 use Rattle.grammar.specs.Grammar.{Text, semi}
 use Rattle.grammar.specs.Reader.{rowOf}
-use Rattle.phase.specs.Next.{phaseNumber}
+use Rattle.phase.specs.Next.{samePhase}
 use Rattle.phase.specs.declared.Phase.the-variants.{Name}
-use Rattle.walk.specs.Steps.{capped, closesAt, countsAfter, walkAfter}
+use Rattle.walk.specs.Steps.{stepAfter}
 use Rattle.walk.specs.declared.Counts.{Counts}
 use Rattle.walk.specs.declared.Closes.{Closes}
 use Rattle.walk.specs.declared.Current.{Current}
@@ -62,12 +62,12 @@ codeOf negated = if negated then 1 else 0
 abbrev pub rowFor : Current → ℕ → Row
 rowFor o end = record { operand = o .operand; modulus = o .modulus; comparison = codeOf (o .negated); end = min end 4294967295 }
 
--- in a phase, for a token that closes so much and has this value; c and d: the counts before and behind the token
-abbrev pub filled : ℕ → ℕ → Closes → Counts → Counts → Current → Arrays → Arrays
-filled k v x c d o a =
+-- for a token that starts a range or ends one, has this value and closes so much; c and d: the counts before and behind the token
+abbrev pub filled : Bool → Bool → ℕ → Closes → Counts → Counts → Current → Arrays → Arrays
+filled starts ends v x c d o a =
     record {
-      low = setIf (eqb k 7) (a .low) (c .ranges) v;
-      high = setIf (eqb k 9) (setIf (eqb k 7) (a .high) (c .ranges) v) (c .ranges - 1) v;
+      low = setIf starts (a .low) (c .ranges) v;
+      high = setIf ends (setIf starts (a .high) (c .ranges) v) (c .ranges - 1) v;
       columns = setRowIf (x .relation) (a .columns) (c .relations) (rowFor o (c .ranges));
       relations = setIf (x .clause) (a .relations) (c .clauses) (d .relations);
       keyword = setIf (x .rule) (a .keyword) (c .rules) (o .key);
@@ -94,10 +94,10 @@ startWalk =
 abbrev pub boardAfter : Board → Text → ℕ → Board
 boardAfter b t at =
     let w = b .walk in
-    let k = phaseNumber (w .phase) in
+    let g = stepAfter t at (b .arrays .keyword) w in
     record {
-      walk = walkAfter t at (b .arrays .keyword) w;
-      arrays = filled k (capped t) (closesAt k t) (w .counts) (countsAfter (w .counts) (eqb k 7) (closesAt k t)) (w .current) (b .arrays);
+      walk = g .walk;
+      arrays = filled (g .starts) (g .ends) (g .value) (g .closes) (w .counts) (g .walk .counts) (w .current) (b .arrays);
     }
 
 abbrev pub boards : Board → List Token → Board
@@ -120,7 +120,7 @@ readBy row place n = if eqb row 0 then Rules n else Refused (OfPack (rowOf row) 
 
 abbrev pub judged : Walk → Read
 judged w =
-    if eqb (phaseNumber (w .phase)) 0 then readBy (w .mark .row) (w .mark .place) (w .counts .rules) else
+    if samePhase (w .phase) Name then readBy (w .mark .row) (w .mark .place) (w .counts .rules) else
     Refused (OfPack NotAPack (record { 0 = w .mark .stop }))
 
 -- the answer to a pack of n bytes

@@ -16,7 +16,7 @@ use answer::Refusal;
 use decimal::cut::after;
 use decimal::cut::upto;
 use phase::Phase;
-use phase::number;
+use phase::same_phase;
 use token::piece_len;
 use token::skip_white;
 use walk::Counts;
@@ -28,7 +28,7 @@ use walk::step_after;
 
 const MAX_BYTES: usize = 4096;
 
-const MAX_ROWS: usize = 320;
+const RELATION_ROOM: usize = 320;
 
 // How many rules a pack has, or why it is not read.
 pub enum Read {
@@ -97,7 +97,7 @@ fn put_row(b: bool, a: &mut [u32; 1280], n: usize, o: Current, end: usize)
 {
     whole(a);
     if b {
-        if n < MAX_ROWS {
+        if n < RELATION_ROOM {
             let k = 4 * n;
             a[k] = wide(o.operand);
             a[k + 1] = o.modulus;
@@ -197,8 +197,7 @@ fn judge(w: Walk) -> Read
     let p = w.phase;
     let c = w.counts;
     let m = w.mark;
-    let k = number(p);
-    if k == 0 {
+    if same_phase(p, Phase::Name) {
         return read_by(m.row, m.place, c.rules);
     }
     Read::Refused(Refusal::Pack(PackRow::NotAPack, Place(m.stop)))

@@ -1,7 +1,8 @@
 -- What may follow in a pack, without what has been read: the automaton that the code runs, `;` among its tokens.
 use mathlib.Core.Bool.{Bool}
 use Prim.Native.Nat.{ℕ}
-use Rattle.decimal.specs.Choice.{if_then_else_}
+use lib.Dec.{eqb}
+use Rattle.decimal.specs.Choice.{if_then_else_, either}
 use Rattle.token.specs.Spelling.{same}
 use Rattle.token.specs.Token.{dots, differ}
 use Rattle.grammar.specs.Grammar.{Text, colon, semi, comma, percent, equal, and, or, isWord, isNumber, isOperand}
@@ -34,7 +35,9 @@ nextPhase Upper x t = if isNumber t then More else Dead
 nextPhase More x t = afterRelation t
 nextPhase Dead x t = Dead
 
--- phases by number, in their order
+-- ---- which phase it is
+
+-- a number of its own for each phase; no more is asked of the numbers
 abbrev pub phaseNumber : Phase → ℕ
 phaseNumber Name = 0
 phaseNumber Colon = 1
@@ -48,3 +51,18 @@ phaseNumber DotsOrMore = 8
 phaseNumber Upper = 9
 phaseNumber More = 10
 phaseNumber Dead = 11
+
+abbrev pub samePhase : Phase → Phase → Bool
+samePhase p q = eqb (phaseNumber p) (phaseNumber q)
+
+-- a number is next: a modulus, a value or the upper end of a range
+abbrev pub hasNumber : Phase → Bool
+hasNumber p = either (samePhase p Modulus) (either (samePhase p Value) (samePhase p Upper))
+
+-- a sign may be next
+abbrev pub isSign : Phase → Bool
+isSign p = either (samePhase p ModulusOrSign) (samePhase p Sign)
+
+-- a relation may end: behind a value or a range
+abbrev pub isClosing : Phase → Bool
+isClosing p = either (samePhase p DotsOrMore) (samePhase p More)

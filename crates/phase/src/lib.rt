@@ -6,7 +6,7 @@ ghost use mathlib.Core.Bool.{true};
 ghost use Rattle.decimal.specs.Choice.{if_then_else_};
 ghost use Rattle.token.specs.Spelling.{same};
 ghost use Rattle.grammar.specs.Grammar.{isWord, isNumber, isOperand};
-ghost use Rattle.phase.specs.Next.{afterSign, afterRelation, nextPhase, phaseNumber};
+ghost use Rattle.phase.specs.Next.{afterSign, afterRelation, nextPhase, phaseNumber, samePhase};
 use decimal::scan::is_digit;
 use token::first_byte;
 use token::is_letter;
@@ -117,8 +117,8 @@ pub fn next_phase(p: Phase, other: bool, t: &[u8]) -> Phase
     }
 }
 
-// The phase's number, in the order of Phase.
-pub fn number(p: Phase) -> u8
+// A number of its own for each phase.
+fn number(p: Phase) -> u8
     ensures { λ r. ⌜ r ≡ phaseNumber p ⌝ }
 {
     match p {
@@ -135,4 +135,10 @@ pub fn number(p: Phase) -> u8
         Phase::More => 10,
         Phase::Dead => 11,
     }
+}
+
+pub fn same_phase(p: Phase, q: Phase) -> bool
+    ensures { λ r. ⌜ r ≡ samePhase p q ⌝ }
+{
+    number(p) == number(q)
 }

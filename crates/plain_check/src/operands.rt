@@ -7,6 +7,7 @@ ghost use Rattle.number.specs.Admitted.{wOf, tOf, numberFrom};
 ghost use Rattle.clash_laws.specs.Check.{lowest};
 use decimal::DigitValue;
 use decimal::Places;
+use decimal::num;
 use number::Number;
 
 // The fraction digits without trailing zeros: their count and value.
@@ -20,13 +21,7 @@ pub fn power(k: u8) -> u64
     requires { ⌜ k ≤ 18 ⌝ }
     ensures { λ r. ⌜ r ≡ 10 ^ k ⌝ }
 {
-    let mut p: u64 = 1;
-    let mut i: u8 = 0;
-    while i < k {
-        p = 10 * p;
-        i += 1;
-    }
-    p
+    num::power(num::wide_byte(k))
 }
 
 // The least i that an exponent allows.

@@ -8,9 +8,9 @@ ghost use Rattle.plural.specs.Select.{bit, maskOf};
 use crate::meaning;
 use number::Number;
 
-const MAX_CLAUSES: usize = 40;
+const CLAUSE_ROOM: usize = 40;
 
-const MAX_RULES: usize = 6;
+const RULE_ROOM: usize = 6;
 
 // The bit k set where `on` is true.
 fn with_bit(mask: u32, k: u32, on: bool) -> u32
@@ -35,7 +35,7 @@ fn clauses_stop(clauses: &[usize; 6], j: usize) -> usize
     requires { ⌜ j < 6 ⌝ }
     ensures { λ r. ⌜ r ≡ min (getD (now (clauses .entry)) j 0) 40 ⌝ }
 {
-    meaning::lesser(clauses[j], MAX_CLAUSES)
+    meaning::lesser(clauses[j], CLAUSE_ROOM)
 }
 
 // Whether the number meets the rule j.
@@ -74,7 +74,7 @@ pub fn met_mask<'a>(
 ) -> u32
     ensures { λ r. ⌜ r ≡ maskOf (stretch (metAt (table (now (columns .entry)) (now (low .entry)) (now (high .entry))) (now (relations .entry)) (now (clauses .entry)) x) 0 (min count 6)) ⌝ }
 {
-    let rules = meaning::lesser(count, MAX_RULES);
+    let rules = meaning::lesser(count, RULE_ROOM);
     let mut mask: u32 = 0;
     let mut bit: u32 = 0;
     let mut j = 0;

@@ -8,7 +8,7 @@ use number::Number;
 use rules::Single;
 use rules::single_at;
 
-const MAX_RELATIONS: usize = 320;
+const RELATION_ROOM: usize = 320;
 
 fn wide8(x: u8) -> u64
     ensures { λ r. ⌜ r ≡ x ⌝ }
@@ -159,7 +159,7 @@ fn relations_stop(relations: &[usize; 40], j: usize) -> usize
     requires { ⌜ j < 40 ⌝ }
     ensures { λ r. ⌜ r ≡ min (getD (now (relations .entry)) j 0) 320 ⌝ }
 {
-    lesser(relations[j], MAX_RELATIONS)
+    lesser(relations[j], RELATION_ROOM)
 }
 
 // One of the clauses at `from` to before `to` holds.

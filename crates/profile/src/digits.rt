@@ -6,20 +6,12 @@ ghost use Rattle.rules.specs.Stretch.{rangesIn, relationBy};
 ghost use Rattle.plural.specs.Meaning.{any, all};
 ghost use Rattle.clash_laws.specs.Profile.{valuesOf, round, reaches, spares, endsIn};
 use crate::values::with_bit;
+use decimal::num::less_by;
+use decimal::num::wide;
 use rules::Single;
-use runs::range::wide;
 
 // Every digit.
 const EACH: u64 = 1_023;
-
-fn less_by(a: u64, b: u64) -> u64
-    ensures { λ r. ⌜ r ≡ a - b ⌝ }
-{
-    if a < b {
-        return 0;
-    }
-    a - b
-}
 
 fn two_to(k: u64) -> u64
     requires { ⌜ k ≤ 20 ⌝ }

@@ -16,7 +16,7 @@ ghost use mathlib.Core.Path.{_≡_};
 ghost use Prim.Native.Nat.{_≤_, _<_, min};
 ghost use Rattle.rules.specs.Stretch.{endAt, rangesFromAt, singleAt};
 
-const MAX_RANGES: usize = 2048;
+const RANGE_ROOM: usize = 2048;
 
 // A relation's numbers: its operand's letter, its modulus, whether it is `!=`, and where its ranges
 // begin and end.
@@ -56,7 +56,7 @@ pub fn from_at(columns: &[u32; 1280], j: usize) -> usize
 fn within(n: usize) -> usize
     ensures { λ r. ⌜ r ≡ min n 2048 ⌝ }
 {
-    if n < MAX_RANGES { n } else { MAX_RANGES }
+    if n < RANGE_ROOM { n } else { RANGE_ROOM }
 }
 
 // The relation j's numbers.

@@ -19,6 +19,7 @@ use crate::range;
 use crate::relation;
 use clash_laws::Query;
 use clash_laws::Span;
+use decimal::num::lesser;
 use rules::single_at;
 
 // How many places there are from `from` to before `to`.
@@ -142,10 +143,10 @@ pub fn clause_run<'a>(
         if !r.says {
             return Run {
                 says: false,
-                stop: range::lesser(r.stop, FAR),
+                stop: lesser(r.stop, FAR),
             };
         }
-        end = range::lesser(end, r.stop);
+        end = lesser(end, r.stop);
         i += 1;
     }
     Run {

@@ -16,6 +16,7 @@ use crate::range;
 use crate::relation;
 use clash_laws::Query;
 use clash_laws::Span;
+use decimal::num::wide;
 use rules::Single;
 use rules::single_at;
 
@@ -55,7 +56,7 @@ fn mark_of(q: Query, s: Single, asked: &mut [bool; 9]) -> usize
     if k == 0 {
         return UNASKED;
     }
-    let l = relation::level_of(k, range::wide(s.modulus));
+    let l = relation::level_of(k, wide(s.modulus));
     mark(asked, l);
     l
 }

@@ -8,24 +8,7 @@ ghost use Rattle.clash_laws.specs.Read.{cap};
 ghost use Rattle.runs.specs.Runs.{far, nextWith};
 use crate::FAR;
 use crate::Run;
-
-pub fn wide(x: u32) -> u64
-    ensures { λ r. ⌜ r ≡ x ⌝ }
-{
-    x as u64
-}
-
-pub fn lesser(a: u64, b: u64) -> u64
-    ensures { λ r. ⌜ r ≡ min a b ⌝ }
-{
-    if a < b { a } else { b }
-}
-
-pub fn greater(a: u64, b: u64) -> u64
-    ensures { λ r. ⌜ r ≡ max a b ⌝ }
-{
-    if a < b { b } else { a }
-}
+use decimal::num::lesser;
 
 // Whether y is in the range a..b.
 fn is_in(a: u32, b: u32, y: u64) -> bool

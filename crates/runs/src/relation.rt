@@ -15,6 +15,7 @@ ghost use Rattle.runs.specs.Runs.{far, upwards};
 use crate::Run;
 use crate::range;
 use clash_laws::Query;
+use decimal::num::wide;
 use rules::Single;
 
 // x's remainder by m; x itself where m is 0.
@@ -52,7 +53,7 @@ pub fn holds_of<'a>(low: &'a [u32; 2048], high: &'a [u32; 2048], s: Single, x: u
     requires { ⌜ (x ≤ cap) × (s .to ≤ 2048) ⌝ }
     ensures { λ r. ⌜ r ≡ test (relationBy (now (low .entry)) (now (high .entry)) s) x ⌝ }
 {
-    let y = remainder(x, range::wide(s.modulus));
+    let y = remainder(x, wide(s.modulus));
     let r = listed_run(low, high, s, y);
     r.says
 }

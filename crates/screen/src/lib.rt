@@ -17,6 +17,8 @@ ghost use Rattle.print.specs.Outcome.{outcome, answerOf, areaOf};
 ghost use Rattle.screen.specs.Entries.{noted, signOf, operandsOf, wordNumber, readCode, readFigures, selectCode, selectFigures, checkCode, checkFigures, printCode, printFigures};
 use answer::Keyword;
 use answer::Refusal;
+use decimal::num::fewer;
+use decimal::num::wide_byte;
 use number::Number;
 use number::Reading;
 use pack_check::PackCheck;
@@ -30,15 +32,6 @@ fn put(figures: &mut [u64], at: usize, x: u64)
     if at < figures.len() {
         figures[at] = x;
     }
-}
-
-fn fewer(a: usize, b: usize) -> usize
-    ensures { λ r. ⌜ r ≡ min a b ⌝ }
-{
-    if a < b {
-        return a;
-    }
-    b
 }
 
 // Stores the first n values behind the count's place.
@@ -79,12 +72,6 @@ fn sign_of(negative: bool) -> u64
     if negative { 1 } else { 0 }
 }
 
-fn wide(x: u8) -> u64
-    ensures { λ r. ⌜ r ≡ x ⌝ }
-{
-    x as u64
-}
-
 fn note_number(figures: &mut [u64; 8], x: Number) -> u32
     ensures { λ r. ⌜ r ≡ 0 ⌝ }
     ensures { λ _. ⌜ now (figures .exit) ≡ noted (operandsOf x) (now (figures .entry)) ⌝ }
@@ -95,11 +82,11 @@ fn note_number(figures: &mut [u64; 8], x: Number) -> u32
     let t = x.t;
     let values = [
         sign_of(x.negative),
-        wide(x.e),
-        wide(v.0),
+        wide_byte(x.e),
+        wide_byte(v.0),
         x.i,
         f.0,
-        wide(w.0),
+        wide_byte(w.0),
         t.0,
     ];
     note(figures, &values, 7);

@@ -17,7 +17,6 @@ ghost use Rattle.clash_laws.specs.Spots.{kindSpot, spotRank, Proper};
 use crate::floor;
 use crate::fraction;
 use crate::limits;
-use crate::limits::power;
 use crate::order;
 use crate::places;
 use answer::Witness;
@@ -27,6 +26,7 @@ use clash_laws::Query;
 use clash_laws::Span;
 use decimal::DigitValue;
 use decimal::Places;
+use decimal::num::power;
 
 // The least integer part that an exponent allows.
 fn lowest_of(e: u64) -> u64

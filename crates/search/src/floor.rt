@@ -9,10 +9,10 @@ ghost use Rattle.clash_laws.specs.Floors.{NoneBelow, raised};
 ghost use Rattle.clash_laws.specs.Read.{joinedIn};
 ghost use Rattle.clash_laws.specs.Ready.{leastIn};
 use crate::limits;
-use crate::order;
 use clash_laws::Floors;
 use clash_laws::Query;
 use clash_laws::Span;
+use decimal::num::greater;
 
 // The least number from lo on and below hi that passes, or hi. Where the floor is not below hi there is
 // no search.
@@ -29,7 +29,7 @@ pub fn least_from<'a>(
     requires { ⌜ NoneBelow q (joinedIn (table (now columns) (now low) (now high)) s) floor ⌝ }
     ensures { λ r. ⌜ r ≡ leastIn (table (now (columns .entry)) (now (low .entry)) (now (high .entry))) s q lo hi ⌝ }
 {
-    let from = order::greater(lo, floor);
+    let from = greater(lo, floor);
     if hi <= from {
         return hi;
     }

@@ -11,17 +11,12 @@ ghost use Rattle.clash_laws.specs.Read.{joinedIn};
 ghost use Rattle.rules.specs.Stretch.{table};
 use crate::floor;
 use crate::limits;
-use crate::limits::power;
 use crate::places;
 use clash_laws::Bounds;
 use clash_laws::Query;
 use clash_laws::Span;
-
-fn lesser(a: u64, b: u64) -> u64
-    ensures { λ r. ⌜ r ≡ min a b ⌝ }
-{
-    if a < b { a } else { b }
-}
+use decimal::num::lesser;
+use decimal::num::power;
 
 // The least t before k zeros, by a search; there is none below the least by what is asked of t alone.
 fn tail_of<'a>(

@@ -1,8 +1,5 @@
 // The limits of admitted numbers (crate number, specs/Limits.antt), and the counts that follow from
 // them, each once.
-ghost use mathlib.Core.Path.{_≡_};
-ghost use Prim.Native.Nat.{_^_, _≤_};
-
 pub const MAX_EXPONENT: u64 = 14;
 
 // past the largest: no number was found
@@ -17,34 +14,3 @@ pub const INTEGER_LIMIT: u64 = 1_000_000_000_000_000;
 pub const FRACTION_LIMIT: u64 = 1_000_000_000;
 
 pub const FRACTIONS: u64 = 10_000_000_000;
-
-// The powers of ten from 10^0 on.
-const TENS: [u64; 19] = [
-    1,
-    10,
-    100,
-    1000,
-    10_000,
-    100_000,
-    1_000_000,
-    10_000_000,
-    100_000_000,
-    1_000_000_000,
-    10_000_000_000,
-    100_000_000_000,
-    1_000_000_000_000,
-    10_000_000_000_000,
-    100_000_000_000_000,
-    1_000_000_000_000_000,
-    10_000_000_000_000_000,
-    100_000_000_000_000_000,
-    1_000_000_000_000_000_000,
-];
-
-// 10^k.
-pub fn power(k: u64) -> u64
-    requires { ⌜ k ≤ 18 ⌝ }
-    ensures { λ r. ⌜ r ≡ 10 ^ k ⌝ }
-{
-    TENS[k as usize]
-}

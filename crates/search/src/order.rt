@@ -53,10 +53,3 @@ pub fn earlier(a: Witness, b: Witness) -> Witness
     }
     b
 }
-
-// The greater of two floors.
-pub fn greater(a: u64, b: u64) -> u64
-    ensures { λ r. ⌜ r ≡ max a b ⌝ }
-{
-    if a < b { b } else { a }
-}

@@ -12,7 +12,7 @@ ghost use Rattle.least.specs.Seek.{seek};
 ghost use Rattle.clash_laws.specs.Fast.{settledF, wholeCode, partCode, tailPlaces, fractions};
 ghost use Rattle.clash_laws.specs.Profile.{profileOf, marked, Settled, leastRoom};
 use crate::limits;
-use crate::limits::power;
+use decimal::num::power;
 
 // Whether the bit k is set.
 fn is_marked(m: u64, k: u64) -> bool

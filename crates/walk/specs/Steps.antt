@@ -5,7 +5,7 @@ use mathlib.Core.List.{List, [], _∷_}
 use Prim.Native.Nat.{ℕ, _+_, min}
 use lib.Dec.{eqb, ltb}
 use lib.ListN.{getD, take}
-use Rattle.decimal.specs.Choice.{if_then_else_, both, either}
+use Rattle.decimal.specs.Choice.{if_then_else_, either}
 use Rattle.decimal.specs.Digits.{value}
 use Rattle.answer.specs.Words.{spelling}
 use Rattle.answer.specs.declared.Keyword.the-variants.{Zero, One, Two, Few, Many, Other}
@@ -13,8 +13,9 @@ use Rattle.token.specs.Spelling.{same}
 use Rattle.token.specs.Token.{differ}
 use Rattle.grammar.specs.Limits.{maxBytes, maxClauses, maxRelations, maxRanges, maxValue, isModulus}
 use Rattle.grammar.specs.Grammar.{Text, semi, and, or, other}
-use Rattle.phase.specs.Next.{nextPhase, phaseNumber}
+use Rattle.phase.specs.Next.{nextPhase, samePhase, hasNumber, isSign, isClosing}
 use Rattle.phase.specs.declared.Phase.{Phase}
+use Rattle.phase.specs.declared.Phase.the-variants.{Name, Colon, Nothing, Operand, ModulusOrSign, Modulus, Sign, Value, DotsOrMore, Upper, More, Dead}
 use Rattle.walk.specs.declared.Counts.{Counts}
 use Rattle.walk.specs.declared.Closes.{Closes}
 use Rattle.walk.specs.declared.Current.{Current}
@@ -28,9 +29,9 @@ use Rattle.walk.specs.declared.Step.{Step}
 abbrev pub capped : Text → ℕ
 capped t = min (value t) 1000001
 
--- the token's value where the phase has a number next: a modulus, a value or the upper end of a range; else 0
-abbrev pub valueAt : ℕ → Text → ℕ
-valueAt k t = if either (eqb k 5) (either (eqb k 7) (eqb k 9)) then capped t else 0
+-- the token's value where the phase has a number next, else 0
+abbrev pub valueAt : Phase → Text → ℕ
+valueAt p t = if hasNumber p then capped t else 0
 
 -- the keyword's number, in document 01's order; 6 of any other word
 abbrev pub keywordNumber : Text → ℕ
@@ -58,18 +59,26 @@ moreIf b n = if b then moreOf n else n
 abbrev pub zeroIf : Bool → ℕ → ℕ
 zeroIf b n = if b then 0 else n
 
--- ---- what a token closes in a phase: behind a value or range a relation, and behind `or` a clause with it; before `;` a rule too
+-- ---- what a token closes
 
-abbrev pub isClosing : ℕ → Bool
-isClosing k = either (eqb k 8) (eqb k 10)
+abbrev pub nothing : Closes
+nothing = record { relation = false; clause = false; rule = false }
 
-abbrev pub closesAt : ℕ → Text → Closes
-closesAt k t =
+-- behind `other:`
+abbrev pub endsBare : Text → Closes
+endsBare t = record { relation = false; clause = false; rule = same t semi }
+
+-- behind a value or range: `and` a relation, `or` a clause with it, and `;` a rule too
+abbrev pub endsRelation : Text → Closes
+endsRelation t =
     record {
-      relation = both (isClosing k) (either (same t and) (either (same t or) (same t semi)));
-      clause = both (isClosing k) (either (same t or) (same t semi));
-      rule = both (either (eqb k 2) (isClosing k)) (same t semi);
+      relation = either (same t and) (either (same t or) (same t semi));
+      clause = either (same t or) (same t semi);
+      rule = same t semi;
     }
+
+abbrev pub closesAt : Phase → Text → Closes
+closesAt p t = if isClosing p then endsRelation t else if samePhase p Nothing then endsBare t else nothing
 
 abbrev pub countsAfter : Counts → Bool → Closes → Counts
 countsAfter c isValue x =
@@ -83,17 +92,17 @@ countsAfter c isValue x =
       parted = zeroIf (x .rule) (moreIf (x .clause) (c .parted));
     }
 
-abbrev pub keyAfter : ℕ → Text → ℕ → ℕ
-keyAfter k t old = if eqb k 0 then keywordNumber t else old
+abbrev pub keyAfter : Phase → Text → ℕ → ℕ
+keyAfter p t old = if samePhase p Name then keywordNumber t else old
 
-abbrev pub currentAfter : Current → ℕ → Text → ℕ → ℕ → Current
-currentAfter o k t v key =
+abbrev pub currentAfter : Current → Phase → Text → ℕ → ℕ → Current
+currentAfter o p t v key =
     record {
       key = key;
-      operand = if eqb k 3 then getD t 0 0 else o .operand;
-      modulus = if eqb k 3 then 0 else if eqb k 5 then v else o .modulus;
-      negated = if either (eqb k 4) (eqb k 6) then same t differ else o .negated;
-      low = if eqb k 7 then v else o .low;
+      operand = if samePhase p Operand then getD t 0 0 else o .operand;
+      modulus = if samePhase p Operand then 0 else if samePhase p Modulus then v else o .modulus;
+      negated = if isSign p then same t differ else o .negated;
+      low = if samePhase p Value then v else o .low;
       other = same t other;
     }
 
@@ -111,61 +120,56 @@ valueRow v values = if ltb maxValue v then 22 else if ltb values maxRanges then 
 abbrev pub upperRow : ℕ → ℕ → ℕ
 upperRow v low = if ltb maxValue v then 22 else if ltb v low then 24 else 0
 
-abbrev pub rowAt : ℕ → ℕ → Bool → ℕ → Counts → ℕ → ℕ
-rowAt k key again v c low =
-    if eqb k 0 then nameRow key again else
-    if eqb k 3 then operandRow (c .parted) (c .joined) else
-    if eqb k 5 then (if isModulus v then 0 else 23) else
-    if eqb k 7 then valueRow v (c .values) else
-    if eqb k 9 then upperRow v low else
-    0
+-- `again`: the keyword has been used
+abbrev pub rowAt : Phase → ℕ → Bool → ℕ → Counts → ℕ → ℕ
+rowAt Name key again v c low = nameRow key again
+rowAt Colon key again v c low = 0
+rowAt Nothing key again v c low = 0
+rowAt Operand key again v c low = operandRow (c .parted) (c .joined)
+rowAt ModulusOrSign key again v c low = 0
+rowAt Modulus key again v c low = if isModulus v then 0 else 23
+rowAt Sign key again v c low = 0
+rowAt Value key again v c low = valueRow v (c .values)
+rowAt DotsOrMore key again v c low = 0
+rowAt Upper key again v c low = upperRow v low
+rowAt More key again v c low = 0
+rowAt Dead key again v c low = 0
 
--- the place of the last token before nothing could follow, and the first fault
+-- the place of the last token before nothing could follow
+abbrev pub stopAfter : Phase → ℕ → ℕ → ℕ
+stopAfter p old at = if samePhase p Dead then old else at
+
+-- that place, and the first fault
 abbrev pub markAfter : Mark → ℕ → ℕ → ℕ → Mark
-markAfter m k row at =
+markAfter m stop row at =
     record {
-      stop = if eqb k 11 then m .stop else at;
+      stop = stop;
       row = if eqb (m .row) 0 then row else m .row;
       place = if eqb (m .row) 0 then at else m .place;
     }
 
--- the walk behind a token that has this value and closes so much
-abbrev pub walkWith : Text → ℕ → List ℕ → Walk → ℕ → Closes → Walk
-walkWith t at keys w v x =
-    let k = phaseNumber (w .phase) in
-    let key = keyAfter k t (w .current .key) in
-    record {
-      phase = nextPhase (w .phase) (w .current .other) t;
-      counts = countsAfter (w .counts) (eqb k 7) x;
-      current = currentAfter (w .current) k t v key;
-      mark = markAfter (w .mark) k (rowAt k key (both (eqb k 0) (held key (take (w .counts .rules) keys))) v (w .counts) (w .current .low)) at;
-    }
+-- ---- what a token does in the phase p, closing x and before the phase q
 
-abbrev pub walkAfter : Text → ℕ → List ℕ → Walk → Walk
-walkAfter t at keys w = walkWith t at keys w (capped t) (closesAt (phaseNumber (w .phase)) t)
-
--- ---- what a token does, of the phase's number k, closing x and before the phase q
-
-abbrev pub stepBy : ℕ → Closes → Phase → Text → ℕ → List ℕ → Walk → Step
-stepBy k x q t at keys w =
-    let key = keyAfter k t (w .current .key) in
+abbrev pub stepBy : Phase → Closes → Phase → Text → ℕ → List ℕ → Walk → Step
+stepBy p x q t at keys w =
+    let v = valueAt p t in
+    let key = keyAfter p t (w .current .key) in
     record {
       walk = record {
         phase = q;
-        counts = countsAfter (w .counts) (eqb k 7) x;
-        current = currentAfter (w .current) k t (valueAt k t) key;
-        mark = markAfter (w .mark) k (rowAt k key (both (eqb k 0) (held key (take (w .counts .rules) keys))) (valueAt k t) (w .counts) (w .current .low)) at;
+        counts = countsAfter (w .counts) (samePhase p Value) x;
+        current = currentAfter (w .current) p t v key;
+        mark =
+            markAfter (w .mark) (stopAfter p (w .mark .stop) at)
+            (rowAt p key (held key (take (w .counts .rules) keys)) v (w .counts) (w .current .low)) at;
       };
-      value = valueAt k t;
+      value = v;
       closes = x;
-      starts = eqb k 7;
-      ends = eqb k 9;
+      starts = samePhase p Value;
+      ends = samePhase p Upper;
     }
-
-abbrev pub nothing : Closes
-nothing = record { relation = false; clause = false; rule = false }
 
 abbrev pub stepAfter : Text → ℕ → List ℕ → Walk → Step
 stepAfter t at keys w =
-    let k = phaseNumber (w .phase) in
-    stepBy k (closesAt k t) (nextPhase (w .phase) (w .current .other) t) t at keys w
+    let p = w .phase in
+    stepBy p (closesAt p t) (nextPhase p (w .current .other) t) t at keys w

@@ -5,11 +5,11 @@
 ghost use mathlib.Core.Path.{_≡_};
 ghost use mathlib.Core.List.{[]};
 ghost use lib.ListN.{take};
-ghost use Rattle.decimal.specs.Choice.{if_then_else_, both, either};
+ghost use Rattle.decimal.specs.Choice.{if_then_else_, either};
 ghost use Rattle.token.specs.Spelling.{same};
 ghost use Rattle.grammar.specs.Grammar.{other};
 ghost use Rattle.grammar.specs.Limits.{isModulus};
-ghost use Rattle.walk.specs.Steps.{capped, keywordNumber, held, moreOf, moreIf, zeroIf, isClosing, closesAt, countsAfter, currentAfter, nameRow, operandRow, valueRow, upperRow, markAfter, stepBy, nothing, stepAfter};
+ghost use Rattle.walk.specs.Steps.{capped, keywordNumber, held, moreOf, moreIf, zeroIf, nothing, endsBare, endsRelation, countsAfter, currentAfter, nameRow, operandRow, valueRow, upperRow, markAfter, stepBy, stepAfter};
 use decimal::cut::upto;
 use decimal::value::value_of;
 use phase::Phase;
@@ -81,12 +81,6 @@ const MAX_RELATIONS: usize = 8;
 const MAX_RANGES: usize = 16;
 
 const MAX_VALUE: u32 = 999_999;
-
-fn and_both(a: bool, b: bool) -> bool
-    ensures { λ r. ⌜ r ≡ both a b ⌝ }
-{
-    if a { b } else { false }
-}
 
 fn or_either(a: bool, b: bool) -> bool
     ensures { λ r. ⌜ r ≡ either a b ⌝ }
@@ -176,25 +170,38 @@ fn zero_if(b: bool, n: usize) -> usize
     if b { 0 } else { n }
 }
 
-fn is_closing(k: u8) -> bool
-    ensures { λ r. ⌜ r ≡ isClosing k ⌝ }
+fn none() -> Closes
+    ensures { λ r. ⌜ r ≡ nothing ⌝ }
 {
-    or_either(k == 8, k == 10)
+    Closes {
+        relation: false,
+        clause: false,
+        rule: false,
+    }
 }
 
-// What the token closes in a phase, by its spelling.
-fn closed_as(k: u8, t: &[u8]) -> Closes
-    ensures { λ r. ⌜ r ≡ closesAt k (now (t .entry)) ⌝ }
+// What a token closes behind `other:`.
+fn ends_bare(t: &[u8]) -> Closes
+    ensures { λ r. ⌜ r ≡ endsBare (now (t .entry)) ⌝ }
 {
-    let p = is_closing(k);
-    let q = or_either(k == 2, p);
+    Closes {
+        relation: false,
+        clause: false,
+        rule: same_text(t, b";"),
+    }
+}
+
+// What a token closes behind a value or range.
+fn ends_relation(t: &[u8]) -> Closes
+    ensures { λ r. ⌜ r ≡ endsRelation (now (t .entry)) ⌝ }
+{
     let c = same_text(t, b";");
     let b = or_either(same_text(t, b"or"), c);
     let a = or_either(same_text(t, b"and"), b);
     Closes {
-        relation: and_both(p, a),
-        clause: and_both(p, b),
-        rule: and_both(q, c),
+        relation: a,
+        clause: b,
+        rule: c,
     }
 }
 
@@ -262,23 +269,13 @@ fn upper_row(v: u32, low: u32) -> u8
     pick_byte(v < low, 24, 0)
 }
 
-fn mark_after(m: Mark, k: u8, row: u8, at: usize) -> Mark
-    ensures { λ r. ⌜ r ≡ markAfter m k row at ⌝ }
+fn mark_after(m: Mark, stop: usize, row: u8, at: usize) -> Mark
+    ensures { λ r. ⌜ r ≡ markAfter m stop row at ⌝ }
 {
     Mark {
-        stop: pick_place(k == 11, m.stop, at),
+        stop: stop,
         row: pick_byte(m.row == 0, row, m.row),
         place: pick_place(m.row == 0, at, m.place),
-    }
-}
-
-fn none() -> Closes
-    ensures { λ r. ⌜ r ≡ nothing ⌝ }
-{
-    Closes {
-        relation: false,
-        clause: false,
-        rule: false,
     }
 }
 
@@ -290,7 +287,7 @@ fn is_other(t: &[u8]) -> bool
 
 // What is being read, but for whether the token is `other`.
 fn kept(o: Current, t: &[u8]) -> Current
-    ensures { λ r. ⌜ r ≡ currentAfter o 1 (now (t .entry)) 0 (o .key) ⌝ }
+    ensures { λ r. ⌜ r ≡ currentAfter o Phase.Colon (now (t .entry)) 0 (o .key) ⌝ }
 {
     Current {
         key: o.key,
@@ -304,7 +301,7 @@ fn kept(o: Current, t: &[u8]) -> Current
 
 // A keyword; `keys`: the keyword numbers of the rules so far.
 fn at_name(q: Phase, t: &[u8], at: usize, keys: &[u8], w: Walk) -> Step
-    ensures { λ r. ⌜ r ≡ stepBy 0 nothing q (now (t .entry)) at (now (keys .entry)) w ⌝ }
+    ensures { λ r. ⌜ r ≡ stepBy Phase.Name nothing q (now (t .entry)) at (now (keys .entry)) w ⌝ }
 {
     let c = w.counts;
     let o = w.current;
@@ -323,7 +320,7 @@ fn at_name(q: Phase, t: &[u8], at: usize, keys: &[u8], w: Walk) -> Step
                 low: o.low,
                 other: is_other(t),
             },
-            mark: mark_after(m, 0, name_row(key, again), at),
+            mark: mark_after(m, at, name_row(key, again), at),
         },
         value: 0,
         closes: none(),
@@ -334,7 +331,7 @@ fn at_name(q: Phase, t: &[u8], at: usize, keys: &[u8], w: Walk) -> Step
 
 // `:`, which changes nothing but the phase.
 fn at_colon(q: Phase, t: &[u8], at: usize, w: Walk) -> Step
-    ensures { λ r. ⌜ r ≡ stepBy 1 nothing q (now (t .entry)) at [] w ⌝ }
+    ensures { λ r. ⌜ r ≡ stepBy Phase.Colon nothing q (now (t .entry)) at [] w ⌝ }
 {
     let c = w.counts;
     let o = w.current;
@@ -344,7 +341,7 @@ fn at_colon(q: Phase, t: &[u8], at: usize, w: Walk) -> Step
             phase: q,
             counts: c,
             current: kept(o, t),
-            mark: mark_after(m, 1, 0, at),
+            mark: mark_after(m, at, 0, at),
         },
         value: 0,
         closes: none(),
@@ -354,7 +351,7 @@ fn at_colon(q: Phase, t: &[u8], at: usize, w: Walk) -> Step
 }
 
 fn at_operand(q: Phase, t: &[u8], at: usize, w: Walk) -> Step
-    ensures { λ r. ⌜ r ≡ stepBy 3 nothing q (now (t .entry)) at [] w ⌝ }
+    ensures { λ r. ⌜ r ≡ stepBy Phase.Operand nothing q (now (t .entry)) at [] w ⌝ }
 {
     let c = w.counts;
     let o = w.current;
@@ -371,7 +368,7 @@ fn at_operand(q: Phase, t: &[u8], at: usize, w: Walk) -> Step
                 low: o.low,
                 other: is_other(t),
             },
-            mark: mark_after(m, 3, operand_row(c.parted, c.joined), at),
+            mark: mark_after(m, at, operand_row(c.parted, c.joined), at),
         },
         value: 0,
         closes: none(),
@@ -382,7 +379,7 @@ fn at_operand(q: Phase, t: &[u8], at: usize, w: Walk) -> Step
 
 // `%`, `=` or `!=`.
 fn at_sign(q: Phase, t: &[u8], at: usize, w: Walk) -> Step
-    ensures { λ r. ⌜ r ≡ stepBy 4 nothing q (now (t .entry)) at [] w ⌝ }
+    ensures { λ r. ⌜ r ≡ stepBy Phase.ModulusOrSign nothing q (now (t .entry)) at [] w ⌝ }
 {
     let c = w.counts;
     let o = w.current;
@@ -399,7 +396,7 @@ fn at_sign(q: Phase, t: &[u8], at: usize, w: Walk) -> Step
                 low: o.low,
                 other: is_other(t),
             },
-            mark: mark_after(m, 4, 0, at),
+            mark: mark_after(m, at, 0, at),
         },
         value: 0,
         closes: none(),
@@ -409,7 +406,7 @@ fn at_sign(q: Phase, t: &[u8], at: usize, w: Walk) -> Step
 }
 
 fn at_modulus(q: Phase, t: &[u8], at: usize, w: Walk) -> Step
-    ensures { λ r. ⌜ r ≡ stepBy 5 nothing q (now (t .entry)) at [] w ⌝ }
+    ensures { λ r. ⌜ r ≡ stepBy Phase.Modulus nothing q (now (t .entry)) at [] w ⌝ }
 {
     let c = w.counts;
     let o = w.current;
@@ -427,7 +424,7 @@ fn at_modulus(q: Phase, t: &[u8], at: usize, w: Walk) -> Step
                 low: o.low,
                 other: is_other(t),
             },
-            mark: mark_after(m, 5, pick_byte(is_modulus(v), 0, 23), at),
+            mark: mark_after(m, at, pick_byte(is_modulus(v), 0, 23), at),
         },
         value: v,
         closes: none(),
@@ -438,7 +435,7 @@ fn at_modulus(q: Phase, t: &[u8], at: usize, w: Walk) -> Step
 
 // A value, which starts a range.
 fn at_value(q: Phase, t: &[u8], at: usize, w: Walk) -> Step
-    ensures { λ r. ⌜ r ≡ stepBy 7 nothing q (now (t .entry)) at [] w ⌝ }
+    ensures { λ r. ⌜ r ≡ stepBy Phase.Value nothing q (now (t .entry)) at [] w ⌝ }
 {
     let c = w.counts;
     let o = w.current;
@@ -456,7 +453,7 @@ fn at_value(q: Phase, t: &[u8], at: usize, w: Walk) -> Step
                 low: v,
                 other: is_other(t),
             },
-            mark: mark_after(m, 7, value_row(v, c.values), at),
+            mark: mark_after(m, at, value_row(v, c.values), at),
         },
         value: v,
         closes: none(),
@@ -467,7 +464,7 @@ fn at_value(q: Phase, t: &[u8], at: usize, w: Walk) -> Step
 
 // What follows a relation or `other:`, and closes x.
 fn at_close(x: Closes, q: Phase, t: &[u8], at: usize, w: Walk) -> Step
-    ensures { λ r. ⌜ r ≡ stepBy 8 x q (now (t .entry)) at [] w ⌝ }
+    ensures { λ r. ⌜ r ≡ stepBy Phase.DotsOrMore x q (now (t .entry)) at [] w ⌝ }
 {
     let c = w.counts;
     let o = w.current;
@@ -477,7 +474,7 @@ fn at_close(x: Closes, q: Phase, t: &[u8], at: usize, w: Walk) -> Step
             phase: q,
             counts: counts_each(c, false, x),
             current: kept(o, t),
-            mark: mark_after(m, 8, 0, at),
+            mark: mark_after(m, at, 0, at),
         },
         value: 0,
         closes: x,
@@ -488,7 +485,7 @@ fn at_close(x: Closes, q: Phase, t: &[u8], at: usize, w: Walk) -> Step
 
 // The upper end of a range.
 fn at_upper(q: Phase, t: &[u8], at: usize, w: Walk) -> Step
-    ensures { λ r. ⌜ r ≡ stepBy 9 nothing q (now (t .entry)) at [] w ⌝ }
+    ensures { λ r. ⌜ r ≡ stepBy Phase.Upper nothing q (now (t .entry)) at [] w ⌝ }
 {
     let c = w.counts;
     let o = w.current;
@@ -499,7 +496,7 @@ fn at_upper(q: Phase, t: &[u8], at: usize, w: Walk) -> Step
             phase: q,
             counts: c,
             current: kept(o, t),
-            mark: mark_after(m, 9, upper_row(v, o.low), at),
+            mark: mark_after(m, at, upper_row(v, o.low), at),
         },
         value: v,
         closes: none(),
@@ -510,7 +507,7 @@ fn at_upper(q: Phase, t: &[u8], at: usize, w: Walk) -> Step
 
 // Any token where nothing makes the pack well-formed.
 fn at_dead(t: &[u8], at: usize, w: Walk) -> Step
-    ensures { λ r. ⌜ r ≡ stepBy 11 nothing Phase.Dead (now (t .entry)) at [] w ⌝ }
+    ensures { λ r. ⌜ r ≡ stepBy Phase.Dead nothing Phase.Dead (now (t .entry)) at [] w ⌝ }
 {
     let c = w.counts;
     let o = w.current;
@@ -520,7 +517,7 @@ fn at_dead(t: &[u8], at: usize, w: Walk) -> Step
             phase: Phase::Dead,
             counts: c,
             current: kept(o, t),
-            mark: mark_after(m, 11, 0, at),
+            mark: mark_after(m, m.stop, 0, at),
         },
         value: 0,
         closes: none(),
@@ -539,7 +536,7 @@ pub fn step_after(t: &[u8], at: usize, keys: &[u8], w: Walk) -> Step
         Phase::Name => at_name(next_phase(Phase::Name, o.other, t), t, at, keys, w),
         Phase::Colon => at_colon(next_phase(Phase::Colon, o.other, t), t, at, w),
         Phase::Nothing => at_close(
-            closed_as(2, t),
+            ends_bare(t),
             next_phase(Phase::Nothing, o.other, t),
             t,
             at,
@@ -551,7 +548,7 @@ pub fn step_after(t: &[u8], at: usize, keys: &[u8], w: Walk) -> Step
         Phase::Sign => at_sign(next_phase(Phase::Sign, o.other, t), t, at, w),
         Phase::Value => at_value(next_phase(Phase::Value, o.other, t), t, at, w),
         Phase::DotsOrMore => at_close(
-            closed_as(8, t),
+            ends_relation(t),
             next_phase(Phase::DotsOrMore, o.other, t),
             t,
             at,
@@ -559,7 +556,7 @@ pub fn step_after(t: &[u8], at: usize, keys: &[u8], w: Walk) -> Step
         ),
         Phase::Upper => at_upper(next_phase(Phase::Upper, o.other, t), t, at, w),
         Phase::More => at_close(
-            closed_as(10, t),
+            ends_relation(t),
             next_phase(Phase::More, o.other, t),
             t,
             at,

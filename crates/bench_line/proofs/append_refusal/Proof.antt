@@ -20,8 +20,8 @@ put-requires-2 c κs = search needs
 number-requires : tie.Need-number-requires
 number-requires c κs = search needs
 
-wide-requires : tie.Need-wide-requires
-wide-requires c κs = search needs
+wide-byte-requires : tie.Need-wide-byte-requires
+wide-byte-requires c κs = search needs
 
 append-spaced-requires : tie.Need-append-spaced-requires
 append-spaced-requires c κs = search needs
@@ -40,7 +40,7 @@ same-length c = search needs
 
 returns : tie.Need-returns
 returns c =
-    let w = c .before .before .before .before .before .before .before .before .before .before .before .before .wide .ensures in
+    let w = c .before .before .before .before .before .before .before .before .before .before .before .before .wide-byte .ensures in
     let n = c .before .before .before .before .before .before .before .before .before .before .before .before .before .number .ensures in
     let f = figures-told (c .before .before .before .before .before .before .before .figures .result) (c .before .before .before .before .before .before .before .before .before .before .before .before .before .before .before .before .before .before .before .before .before .before .before .before .args .refusal) (c .before .before .before .before .before .before .before .figures .ensures) in
     let p1 = c .before .before .before .before .before .before .before .before .before .before .before .before .before .before .before .before .before .before .before .before .before .put .ensures in
@@ -56,7 +56,7 @@ append-refusal-spec =
     put-requires
     put-requires-2
     number-requires
-    wide-requires
+    wide-byte-requires
     append-spaced-requires
     figures-requires
     append-figures-requires

@@ -14,8 +14,8 @@ after-requires c κs = search needs
 trimmed-len-requires : tie.Need-trimmed-len-requires
 trimmed-len-requires c κs = search needs
 
-greater-requires : tie.Need-greater-requires
-greater-requires c κs = search needs
+further-requires : tie.Need-further-requires
+further-requires c κs = search needs
 
 upto-requires : tie.Need-upto-requires
 upto-requires c κs = search needs
@@ -23,8 +23,8 @@ upto-requires c κs = search needs
 returns : tie.Need-returns
 returns c =
     let a = c .before .before .before .before .before .before .args in
-    c .upto .ensures ∙ fraction-is (a .least) (a .most) (a .d .now) (c .before .before .before .after .result .now) (c .before .before .before .before .less .result) (c .before .before .trimmed-len .result) (c .before .greater .result)
-    (c .before .before .before .before .less .ensures) (c .before .before .before .after .ensures) (c .before .before .trimmed-len .ensures .0) (c .before .greater .ensures)
+    c .upto .ensures ∙ fraction-is (a .least) (a .most) (a .d .now) (c .before .before .before .after .result .now) (c .before .before .before .before .less .result) (c .before .before .trimmed-len .result) (c .before .further .result)
+    (c .before .before .before .before .less .ensures) (c .before .before .before .after .ensures) (c .before .before .trimmed-len .ensures .0) (c .before .further .ensures)
 
 pub fraction-shown-spec : {M : Type 1} → statement M
 fraction-shown-spec =
@@ -33,6 +33,6 @@ fraction-shown-spec =
     less-requires
     after-requires
     trimmed-len-requires
-    greater-requires
+    further-requires
     upto-requires
     returns)

@@ -1,4 +1,4 @@
--- `at_close` is the definition at phases 2, 8 and 10.
+-- `at_close` is the definition at the phases that may close something.
 use borrow.Author.Needs.{needs}
 use Rattle.walk.proofs.at_close.Statement.{statement}
 use Rattle.walk.proofs.at_close.Tie as tie

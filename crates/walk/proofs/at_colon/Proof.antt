@@ -1,4 +1,4 @@
--- `at_colon` is the definition at phase 1.
+-- `at_colon` is the definition at a colon.
 use borrow.Author.Needs.{needs}
 use Rattle.walk.proofs.at_colon.Statement.{statement}
 use Rattle.walk.proofs.at_colon.Tie as tie

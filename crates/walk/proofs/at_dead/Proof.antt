@@ -1,4 +1,4 @@
--- `at_dead` is the definition at phase 11.
+-- `at_dead` is the definition at the dead phase.
 use borrow.Author.Needs.{needs}
 use Rattle.walk.proofs.at_dead.Statement.{statement}
 use Rattle.walk.proofs.at_dead.Tie as tie

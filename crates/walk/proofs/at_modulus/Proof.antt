@@ -1,4 +1,4 @@
--- `at_modulus` is the definition at phase 5.
+-- `at_modulus` is the definition at a modulus.
 use borrow.Author.Needs.{needs}
 use Rattle.walk.proofs.at_modulus.Statement.{statement}
 use Rattle.walk.proofs.at_modulus.Tie as tie

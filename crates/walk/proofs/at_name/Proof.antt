@@ -1,4 +1,4 @@
--- `at_name` is the definition at phase 0.
+-- `at_name` is the definition at a keyword.
 use borrow.Author.Needs.{needs}
 use Rattle.walk.proofs.at_name.Statement.{statement}
 use Rattle.walk.proofs.at_name.Tie as tie

@@ -1,4 +1,4 @@
--- `at_operand` is the definition at phase 3.
+-- `at_operand` is the definition at an operand.
 use borrow.Author.Needs.{needs}
 use Rattle.walk.proofs.at_operand.Statement.{statement}
 use Rattle.walk.proofs.at_operand.Tie as tie

@@ -1,4 +1,4 @@
--- `at_sign` is the definition at phases 4 and 6.
+-- `at_sign` is the definition at a sign.
 use borrow.Author.Needs.{needs}
 use Rattle.walk.proofs.at_sign.Statement.{statement}
 use Rattle.walk.proofs.at_sign.Tie as tie

@@ -1,4 +1,4 @@
--- `at_upper` is the definition at phase 9.
+-- `at_upper` is the definition at an upper end.
 use borrow.Author.Needs.{needs}
 use Rattle.walk.proofs.at_upper.Statement.{statement}
 use Rattle.walk.proofs.at_upper.Tie as tie

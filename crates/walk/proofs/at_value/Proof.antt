@@ -1,4 +1,4 @@
--- `at_value` is the definition at phase 7.
+-- `at_value` is the definition at a value.
 use borrow.Author.Needs.{needs}
 use Rattle.walk.proofs.at_value.Statement.{statement}
 use Rattle.walk.proofs.at_value.Tie as tie

@@ -3,18 +3,14 @@ use borrow.Author.Needs.{needs}
 use Rattle.walk.proofs.mark_after.Statement.{statement}
 use Rattle.walk.proofs.mark_after.Tie as tie
 
-pick-place-requires : tie.Need-pick-place-requires
-pick-place-requires c κs = search needs
-
 pick-byte-requires : tie.Need-pick-byte-requires
 pick-byte-requires c κs = search needs
 
-pick-place-requires-2 : tie.Need-pick-place-requires-2
-pick-place-requires-2 c κs = search needs
+pick-place-requires : tie.Need-pick-place-requires
+pick-place-requires c κs = search needs
 
 returns : tie.Need-returns
-returns c = simp (c .pick-place2 .ensures, c .before .before .pick-byte .ensures, c .before .before .before .before .pick-place .ensures)
+returns c = simp (c .pick-place .ensures, c .before .before .pick-byte .ensures)
 
 pub mark-after-spec : {M : Type 1} → statement M
-mark-after-spec =
-    tie.close (tie.spec pick-place-requires pick-byte-requires pick-place-requires-2 returns)
+mark-after-spec = tie.close (tie.spec pick-byte-requires pick-place-requires returns)

@@ -25,8 +25,8 @@ at-colon-requires c κs = search needs
 enum-told-3 : tie.Need-enum-told-3
 enum-told-3 c = search needs
 
-closed-as-requires : tie.Need-closed-as-requires
-closed-as-requires c κs = search needs
+ends-bare-requires : tie.Need-ends-bare-requires
+ends-bare-requires c κs = search needs
 
 next-phase-requires-3 : tie.Need-next-phase-requires-3
 next-phase-requires-3 c κs = search needs
@@ -82,8 +82,8 @@ at-value-requires c κs = search needs
 enum-told-9 : tie.Need-enum-told-9
 enum-told-9 c = search needs
 
-closed-as-requires-2 : tie.Need-closed-as-requires-2
-closed-as-requires-2 c κs = search needs
+ends-relation-requires : tie.Need-ends-relation-requires
+ends-relation-requires c κs = search needs
 
 next-phase-requires-9 : tie.Need-next-phase-requires-9
 next-phase-requires-9 c κs = search needs
@@ -103,8 +103,8 @@ at-upper-requires c κs = search needs
 enum-told-11 : tie.Need-enum-told-11
 enum-told-11 c = search needs
 
-closed-as-requires-3 : tie.Need-closed-as-requires-3
-closed-as-requires-3 c κs = search needs
+ends-relation-requires-2 : tie.Need-ends-relation-requires-2
+ends-relation-requires-2 c κs = search needs
 
 next-phase-requires-11 : tie.Need-next-phase-requires-11
 next-phase-requires-11 c κs = search needs
@@ -125,7 +125,7 @@ returns-2 : tie.Need-returns-2
 returns-2 c = rw (c .before .before .enum-told2 .given .1) (c .at-colon .ensures ∙ rw (c .before .next-phase2 .ensures))
 
 returns-3 : tie.Need-returns-3
-returns-3 c = rw (c .before .before .before .enum-told3 .given .1) (c .at-close .ensures ∙ rw (c .before .next-phase3 .ensures, c .before .before .closed-as .ensures))
+returns-3 c = rw (c .before .before .before .enum-told3 .given .1) (c .at-close .ensures ∙ rw (c .before .next-phase3 .ensures, c .before .before .ends-bare .ensures))
 
 returns-4 : tie.Need-returns-4
 returns-4 c = rw (c .before .before .enum-told4 .given .1) (c .at-operand .ensures ∙ rw (c .before .next-phase4 .ensures))
@@ -143,13 +143,13 @@ returns-8 : tie.Need-returns-8
 returns-8 c = rw (c .before .before .enum-told8 .given .1) (c .at-value .ensures ∙ rw (c .before .next-phase8 .ensures))
 
 returns-9 : tie.Need-returns-9
-returns-9 c = rw (c .before .before .before .enum-told9 .given .1) (c .at-close2 .ensures ∙ rw (c .before .next-phase9 .ensures, c .before .before .closed-as2 .ensures))
+returns-9 c = rw (c .before .before .before .enum-told9 .given .1) (c .at-close2 .ensures ∙ rw (c .before .next-phase9 .ensures, c .before .before .ends-relation .ensures))
 
 returns-10 : tie.Need-returns-10
 returns-10 c = rw (c .before .before .enum-told10 .given .1) (c .at-upper .ensures ∙ rw (c .before .next-phase10 .ensures))
 
 returns-11 : tie.Need-returns-11
-returns-11 c = rw (c .before .before .before .enum-told11 .given .1) (c .at-close3 .ensures ∙ rw (c .before .next-phase11 .ensures, c .before .before .closed-as3 .ensures))
+returns-11 c = rw (c .before .before .before .enum-told11 .given .1) (c .at-close3 .ensures ∙ rw (c .before .next-phase11 .ensures, c .before .before .ends-relation2 .ensures))
 
 returns-12 : tie.Need-returns-12
 returns-12 c = rw (c .before .enum-told12 .given .1) (c .at-dead .ensures)
@@ -165,7 +165,7 @@ step-after-spec =
     next-phase-requires-2
     at-colon-requires
     enum-told-3
-    closed-as-requires
+    ends-bare-requires
     next-phase-requires-3
     at-close-requires
     enum-told-4
@@ -184,14 +184,14 @@ step-after-spec =
     next-phase-requires-8
     at-value-requires
     enum-told-9
-    closed-as-requires-2
+    ends-relation-requires
     next-phase-requires-9
     at-close-requires-2
     enum-told-10
     next-phase-requires-10
     at-upper-requires
     enum-told-11
-    closed-as-requires-3
+    ends-relation-requires-2
     next-phase-requires-11
     at-close-requires-3
     enum-told-12

@@ -1,10 +1,10 @@
--- `search::limits::power` reads the table: its entries are each ten times the one before.
+-- `decimal::num::power` reads the table: its entries are each ten times the one before.
 use native.Mathlib.Omega.{arith}
 use mathlib.Core.Path.{_∙_}
 use Rattle.decimal.proofs.Powers.{powers-at}
 use borrow.Author.Needs.{needs}
-use Rattle.search.proofs.limits.power.Statement.{statement}
-use Rattle.search.proofs.limits.power.Tie as tie
+use Rattle.decimal.proofs.num.power.Statement.{statement}
+use Rattle.decimal.proofs.num.power.Tie as tie
 
 mul-result : tie.Need-mul-result
 mul-result c = search needs
