@@ -44,10 +44,11 @@ linked: $(SCREEN)
 	@target/c/example | diff - c/example.out
 	@$(CARGO) test $(RUST)
 
-# The gate's own last line is said again at the end.
+# The gate's own last line is said again at the end. One check more than there are processors: the gate waits for the slower of those that it
+# starts together.
 test:
 	@rt fmt --check
 	@log=$$(mktemp); trap 'rm -f "$$log"' EXIT; \
-	rt ci | tee "$$log"; \
+	RT_JOBS=$${RT_JOBS:-$$(($$(nproc) + 1))} rt ci | tee "$$log"; \
 	$(MAKE) --no-print-directory linked; \
 	tail -n 1 "$$log"
