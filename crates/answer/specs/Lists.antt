@@ -11,9 +11,9 @@ padded zero l = []
 padded (suc n) [] = 0 ∷ padded n []
 padded (suc n) (x ∷ l) = x ∷ padded n l
 
--- a refusal's figures: no row has more than six
+-- a refusal's figures: no row has more than seven
 abbrev pub figureList : List ℕ → FigureList
-figureList l = record { count = length l; values = padded 6 l }
+figureList l = record { count = length l; values = padded 7 l }
 
 -- a keyword's letters: none has more than five
 abbrev pub letterList : List ℕ → Letters

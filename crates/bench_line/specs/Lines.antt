@@ -13,7 +13,8 @@ use Rattle.answer.specs.declared.Keyword.{Keyword}
 use Rattle.answer.specs.declared.Refusal.{Refusal}
 use Rattle.plural.specs.declared.Selection.{Selection}
 use Rattle.plural.specs.declared.Selection.the-variants.{Word, Refused}
-use Rattle.answer.specs.declared.Refusal.the-variants.{AreaTooShort}
+use Rattle.answer.specs.declared.Refusal.the-variants.{Print as OfPrint}
+use Rattle.answer.specs.declared.PrintRow.the-variants.{AreaTooShort}
 use Rattle.print.specs.Outcome.{Outcome, outcome}
 use Rattle.print.specs.Outcome.Outcome.{text, refused}
 use Rattle.select.specs.Select.{selectOf}
@@ -64,7 +65,7 @@ abbrev pub printedText : List ℕ → List ℕ
 printedText t = ((102 ∷ 32 ∷ []) ++ t) ++ (10 ∷ [])
 
 abbrev pub formatText : Outcome → List ℕ
-formatText (text t) = if ltb maxOutput (length t) then refusalText 102 (AreaTooShort (length t)) else printedText t
+formatText (text t) = if ltb maxOutput (length t) then refusalText 102 (OfPrint (AreaTooShort (length t))) else printedText t
 formatText (refused r) = refusalText 102 r
 
 -- "`f`, pattern, number (standard symbols)": the house record is empty

@@ -18,7 +18,9 @@ use Rattle.answer.specs.declared.PatternRow.the-variants.{PatternTooLong, Patte
 use Rattle.answer.specs.declared.SymbolRow.{SymbolRow}
 use Rattle.answer.specs.declared.SymbolRow.the-variants.{NotASymbolRecord, BadSymbolBody}
 use Rattle.answer.specs.declared.Refusal.{Refusal}
-use Rattle.answer.specs.declared.Refusal.the-variants.{Number, PackTooLong, Pack, TwoRulesMet, RulesClash, Pattern, Symbols, PrintedExponent, AreaTooShort}
+use Rattle.answer.specs.declared.Refusal.the-variants.{Number, PackTooLong, Pack, Rules as OfRules, Pattern, Symbols, Print as OfPrint}
+use Rattle.answer.specs.declared.RulesRow.the-variants.{TwoRulesMet, RulesClash}
+use Rattle.answer.specs.declared.PrintRow.the-variants.{PrintedExponent, AreaTooShort}
 use Rattle.number.specs.Reading.{readNumber}
 use Rattle.number.specs.declared.Number.{Number as Operands}
 use Rattle.number.specs.declared.Reading.{Reading}
@@ -153,12 +155,12 @@ pub never-zero : (r : Refusal) → 0 < numberOf r
 never-zero (Number q) = omega (arith, number-rows q .0)
 never-zero PackTooLong = omega arith
 never-zero (Pack q at) = omega (arith, pack-rows q .0)
-never-zero (TwoRulesMet pair) = omega arith
-never-zero (RulesClash pair x) = omega arith
+never-zero (OfRules (TwoRulesMet pair)) = omega arith
+never-zero (OfRules (RulesClash pair x)) = omega arith
 never-zero (Pattern q) = omega (arith, pattern-rows q .0)
 never-zero (Symbols q) = omega (arith, symbol-rows q .0)
-never-zero PrintedExponent = omega arith
-never-zero (AreaTooShort n) = omega arith
+never-zero (OfPrint PrintedExponent) = omega arith
+never-zero (OfPrint (AreaTooShort n)) = omega arith
 
 -- so a refusal whose code is 0 or in a part of the table is in that part
 not-zero : {A : Type 0} (r : Refusal) → ZeroOr A (numberOf r) → A
@@ -169,12 +171,12 @@ figures-few : (r : Refusal) → length (figuresOf r) ≤ 7
 figures-few (Number q) = omega arith
 figures-few PackTooLong = omega arith
 figures-few (Pack q at) = omega arith
-figures-few (TwoRulesMet pair) = omega arith
-figures-few (RulesClash pair x) = omega arith
+figures-few (OfRules (TwoRulesMet pair)) = omega arith
+figures-few (OfRules (RulesClash pair x)) = omega arith
 figures-few (Pattern q) = omega arith
 figures-few (Symbols q) = omega arith
-figures-few PrintedExponent = omega arith
-figures-few (AreaTooShort n) = omega arith
+figures-few (OfPrint PrintedExponent) = omega arith
+figures-few (OfPrint (AreaTooShort n)) = omega arith
 
 -- every entry's figures stand in the eight entries behind their count, and entries past them keep what they held
 pub number-noted : (s before : List ℕ) → length before ≡ 8

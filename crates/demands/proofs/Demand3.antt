@@ -16,7 +16,8 @@ use Rattle.answer.specs.declared.Keyword.the-variants.{Other}
 use Rattle.answer.specs.declared.Pair.{Pair}
 use Rattle.answer.specs.declared.Witness.{Witness}
 use Rattle.answer.specs.declared.Refusal.{Refusal}
-use Rattle.answer.specs.declared.Refusal.the-variants.{RulesClash}
+use Rattle.answer.specs.declared.Refusal.the-variants.{Rules as OfRules}
+use Rattle.answer.specs.declared.RulesRow.the-variants.{RulesClash}
 use Rattle.number.specs.Reading.{readNumber}
 use Rattle.number.specs.Admitted.{Admitted, numberFrom}
 use Rattle.number.specs.declared.Number.{Number}
@@ -63,22 +64,22 @@ passes-exactly pack rules v = passing pack rules (pack-given pack v)
 -- ---- (b) "the pair named is met by a single admitted number, every other such pair comes later, the number named meets both, and every other number that
 -- does comes later"
 
-pub names-the-first : (pack : List ℕ) (rules : List Rule) (pair : Pair) (x : Witness) → PackVerdict pack (Rules rules) → checkPack pack ≡ Refused (RulesClash pair x)
+pub names-the-first : (pack : List ℕ) (rules : List Rule) (pair : Pair) (x : Witness) → PackVerdict pack (Rules rules) → checkPack pack ≡ Refused (OfRules (RulesClash pair x))
     → (i : ℕ) × (j : ℕ) × (pair .first ≡ 1 + i) × (pair .second ≡ 1 + j) × Lowest rules i j x
 names-the-first pack rules pair x v c = subst (Claims 1 rules) (clashed (checkOf rules) (rw (pack-given pack v) at c)) (check-claims rules)
   where
-    clashed : (r : Checked) → checkedBy r ≡ Refused (RulesClash pair x) → r ≡ Clashes pair x
+    clashed : (r : Checked) → checkedBy r ≡ Refused (OfRules (RulesClash pair x)) → r ≡ Clashes pair x
     clashed RulesPass q = never (cc)
     clashed (Clashes p y) q = cc
 
 -- a pack that is read and does not pass gets 27: no other refusal is left
-pub else-27 : (pack : List ℕ) (rules : List Rule) → PackVerdict pack (Rules rules) → (Passed pack → ⊥) → (pair : Pair) × ((x : Witness) × (checkPack pack ≡ Refused (RulesClash pair x)))
+pub else-27 : (pack : List ℕ) (rules : List Rule) → PackVerdict pack (Rules rules) → (Passed pack → ⊥) → (pair : Pair) × ((x : Witness) × (checkPack pack ≡ Refused (OfRules (RulesClash pair x))))
 else-27 pack rules v n = by (checkOf rules) refl
   where
     e : readPack pack ≡ Rules rules
     e = pack-given pack v
 
-    by : (c : Checked) → checkOf rules ≡ c → (pair : Pair) × ((x : Witness) × (checkPack pack ≡ Refused (RulesClash pair x)))
+    by : (c : Checked) → checkOf rules ≡ c → (pair : Pair) × ((x : Witness) × (checkPack pack ≡ Refused (OfRules (RulesClash pair x))))
     by RulesPass q = absurd (n (rw (e, q)))
     by (Clashes pair x) q = (pair, (x, rw (e, q)))
 

@@ -17,7 +17,7 @@ use Rattle.answer.specs.declared.Place.{Place}
 use Rattle.answer.specs.declared.Pair.{Pair}
 use Rattle.answer.specs.declared.Witness.{Witness}
 use Rattle.answer.specs.declared.Refusal.{Refusal}
-use Rattle.answer.specs.declared.Refusal.the-variants.{Number, PackTooLong, Pack, TwoRulesMet, RulesClash, Pattern as OfPattern, Symbols, PrintedExponent, AreaTooShort}
+use Rattle.answer.specs.declared.Refusal.the-variants.{Number, PackTooLong, Pack, Rules as OfRules, Pattern as OfPattern, Symbols, Print as OfPrint}
 use Rattle.number.specs.Reading.{readNumber}
 use Rattle.number.specs.declared.Number.{Number as Operands}
 use Rattle.number.specs.declared.Reading.{Reading}
@@ -91,12 +91,10 @@ abbrev ofPack : Refusal → Bool
 ofPack (Number r) = false
 ofPack PackTooLong = true
 ofPack (Pack r at) = true
-ofPack (TwoRulesMet pair) = false
-ofPack (RulesClash pair x) = false
+ofPack (OfRules r) = false
 ofPack (OfPattern r) = false
 ofPack (Symbols r) = false
-ofPack PrintedExponent = false
-ofPack (AreaTooShort n) = false
+ofPack (OfPrint r) = false
 
 abbrev isPack : PackAnswer → Bool
 isPack (Rules rules) = true
@@ -139,12 +137,10 @@ pack-found s = by (readPack s) refl
     refused PackTooLong e = too-long (row-20 s .0 e)
     refused (Pack r at) e = by-row r at e
     refused (Number r) e = other (Number r) e refl
-    refused (TwoRulesMet pair) e = other (TwoRulesMet pair) e refl
-    refused (RulesClash pair x) e = other (RulesClash pair x) e refl
+    refused (OfRules r) e = other (OfRules r) e refl
     refused (OfPattern r) e = other (OfPattern r) e refl
     refused (Symbols r) e = other (Symbols r) e refl
-    refused PrintedExponent e = other PrintedExponent e refl
-    refused (AreaTooShort n) e = other (AreaTooShort n) e refl
+    refused (OfPrint r) e = other (OfPrint r) e refl
 
     by : (a : PackAnswer) → readPack s ≡ a → PackVerdict s a
     by (Rules rules) e = read-pack rules (read-rules s rules .0 e)

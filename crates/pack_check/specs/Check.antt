@@ -1,7 +1,8 @@
 -- The check of a pack's text: its refusal, or that of its rules. Document 01: "A passed pack is one the check doesn't refuse."
 use mathlib.Core.List.{List}
 use Prim.Native.Nat.{ℕ}
-use Rattle.answer.specs.declared.Refusal.the-variants.{RulesClash}
+use Rattle.answer.specs.declared.Refusal.the-variants.{Rules as OfRules}
+use Rattle.answer.specs.declared.RulesRow.the-variants.{RulesClash}
 use Rattle.grammar.specs.Reader.{PackAnswer, readPack}
 use Rattle.grammar.specs.Reader.PackAnswer.{Rules, Refused as PackRefused}
 use Rattle.clash_laws.specs.Check.{checkOf}
@@ -13,7 +14,7 @@ use Rattle.pack_check.specs.declared.PackCheck.the-variants.{Passes, Ref
 -- 27 "two rules met: pair; from the check also e v i f"
 abbrev pub checkedBy : Checked → PackCheck
 checkedBy RulesPass = Passes
-checkedBy (Clashes pair x) = Refused (RulesClash pair x)
+checkedBy (Clashes pair x) = Refused (OfRules (RulesClash pair x))
 
 abbrev pub checkRules : PackAnswer → PackCheck
 checkRules (Rules rules) = checkedBy (checkOf rules)

@@ -3,6 +3,7 @@
 ghost use mathlib.Core.Path.{_≡_};
 ghost use Rattle.pack_check.specs.Check.{checkedBy, checkPack};
 use answer::Refusal;
+use answer::RulesRow;
 use clash_laws::Checked;
 use pack::Read;
 
@@ -16,7 +17,10 @@ fn checked_by(c: Checked) -> PackCheck
 {
     match c {
         Checked::Passes => PackCheck::Passes,
-        Checked::Clashes(pair, x) => PackCheck::Refused(Refusal::RulesClash(pair, x)),
+        Checked::Clashes(pair, x) => PackCheck::Refused(Refusal::Rules(RulesRow::RulesClash(
+            pair,
+            x,
+        ))),
     }
 }
 

@@ -12,7 +12,8 @@ use Rattle.decimal.specs.Choice.{if_then_else_}
 use Rattle.decimal.proofs.Choices.{choice, tested, not-both}
 use Rattle.answer.specs.declared.Keyword.{Keyword}
 use Rattle.answer.specs.declared.Keyword.the-variants.{Other}
-use Rattle.answer.specs.declared.Refusal.the-variants.{TwoRulesMet}
+use Rattle.answer.specs.declared.Refusal.the-variants.{Rules as OfRules}
+use Rattle.answer.specs.declared.RulesRow.the-variants.{TwoRulesMet}
 use Rattle.number.specs.declared.Number.{Number}
 use Rattle.number.specs.Alike.{negative}
 use Rattle.rules.specs.Syntax.{Range, Rule}
@@ -152,7 +153,7 @@ module _ (x : Number) where
           (f (secondMet (metBy rules x)) (keywordAt rules (secondMet (metBy rules x))) (second-meets rules double))
 
       pair : a ≡ firstMet (metBy rules x) → b ≡ secondMet (metBy rules x)
-          → Refused (TwoRulesMet (record { first = a + 1; second = b + 1 })) ≡ Refused (TwoRulesMet (pairOf (metBy rules x)))
+          → Refused (OfRules (TwoRulesMet (record { first = a + 1; second = b + 1 }))) ≡ Refused (OfRules (TwoRulesMet (pairOf (metBy rules x))))
       pair p q = rw (p, q)
 
 -- ---- the sign changes no word

@@ -11,7 +11,8 @@ use lib.ListN.{length, getD, drop, length-drop}
 use Rattle.answer.specs.declared.Keyword.{Keyword}
 use Rattle.answer.specs.declared.Keyword.the-variants.{Other}
 use Rattle.answer.specs.declared.Pair.{Pair}
-use Rattle.answer.specs.declared.Refusal.the-variants.{TwoRulesMet}
+use Rattle.answer.specs.declared.Refusal.the-variants.{Rules as OfRules}
+use Rattle.answer.specs.declared.RulesRow.the-variants.{TwoRulesMet}
 use Rattle.number.specs.declared.Number.{Number}
 use Rattle.rules.specs.Syntax.{Rule}
 use Rattle.rules.specs.Held.{Pack, keywordOf, heldRules}
@@ -92,12 +93,12 @@ module _ (p : Pack) (x : Number) (m : ℕ) (s : Sized p) (h : Met p x m) where
       omega (arith, second-is k, first-within (drop (firstMet bs + 1) bs) (omega (arith, count-behind bs (omega (arith, count-is)), count-is)), length-drop (firstMet bs + 1) bs, h .few)
 
   pub two-met : (a b : ℕ) → 2 ≤ ones m → a ≡ trailingZeros 32 m + 1 → b ≡ a + trailingZeros 32 (m / 2 ^ (trailingZeros 32 m + 1)) + 1
-      → Refused (TwoRulesMet (record { first = a; second = b })) ≡ selection (heldRules p) x
+      → Refused (OfRules (TwoRulesMet (record { first = a; second = b }))) ≡ selection (heldRules p) x
   two-met a b k e f =
       let bs = metBy (heldRules p) x in
       rw (ne-eqb (countMet bs) 0 (λ z. omega (arith, count-is)), ne-eqb (countMet bs) 1 (λ z. omega (arith, count-is)))
       (pair (omega (arith, first-is (omega arith))) (omega (arith, first-is (omega arith), second-is k)))
     where
       pair : a ≡ firstMet (metBy (heldRules p) x) + 1 → b ≡ secondMet (metBy (heldRules p) x) + 1
-          → Refused (TwoRulesMet (record { first = a; second = b })) ≡ Refused (TwoRulesMet (pairOf (metBy (heldRules p) x)))
+          → Refused (OfRules (TwoRulesMet (record { first = a; second = b }))) ≡ Refused (OfRules (TwoRulesMet (pairOf (metBy (heldRules p) x))))
       pair u v = rw (u, v)

@@ -9,7 +9,8 @@ use Rattle.decimal.specs.Choice.{if_then_else_}
 use Rattle.answer.specs.declared.Keyword.{Keyword}
 use Rattle.answer.specs.declared.Keyword.the-variants.{Other}
 use Rattle.answer.specs.declared.Pair.{Pair}
-use Rattle.answer.specs.declared.Refusal.the-variants.{TwoRulesMet}
+use Rattle.answer.specs.declared.Refusal.the-variants.{Rules as OfRules}
+use Rattle.answer.specs.declared.RulesRow.the-variants.{TwoRulesMet}
 use Rattle.number.specs.declared.Number.{Number}
 use Rattle.rules.specs.Syntax.{Rule}
 use Rattle.plural.specs.Meaning.{meets}
@@ -58,7 +59,7 @@ abbrev pub chosen : List Rule → List Bool → Selection
 chosen rules bs =
     if eqb (countMet bs) 0 then Word Other else
     if eqb (countMet bs) 1 then Word (keywordAt rules (firstMet bs)) else
-    Refused (TwoRulesMet (pairOf bs))
+    Refused (OfRules (TwoRulesMet (pairOf bs)))
 
 abbrev pub selection : List Rule → Number → Selection
 selection rules x = chosen rules (metBy rules x)

@@ -6,7 +6,8 @@ use mathlib.Core.Logic.{_⊎_}
 use Prim.Native.Nat.{ℕ, zero, suc, _+_, _≤_, _<_}
 use Rattle.answer.specs.declared.Keyword.{Keyword}
 use Rattle.answer.specs.declared.Keyword.the-variants.{Other}
-use Rattle.answer.specs.declared.Refusal.the-variants.{TwoRulesMet}
+use Rattle.answer.specs.declared.Refusal.the-variants.{Rules as OfRules}
+use Rattle.answer.specs.declared.RulesRow.the-variants.{TwoRulesMet}
 use Rattle.number.specs.declared.Number.{Number}
 use Rattle.rules.specs.Syntax.{Rule}
 use Rattle.plural.specs.Meaning.{meets}
@@ -24,4 +25,4 @@ pub data Chosen (x : Number) (rules : List Rule) : Selection → Type 0 where
   one : (k : ℕ) (w : Keyword) → MeetsAt x rules k w → ((j : ℕ) (u : Keyword) → MeetsAt x rules j u → j ≡ k) → Chosen x rules (Word w)
   two : (a b : ℕ) (w u : Keyword) → MeetsAt x rules a w → MeetsAt x rules b u → a < b
       → ((j : ℕ) (q : Keyword) → MeetsAt x rules j q → (j ≡ a) ⊎ (b ≤ j))
-      → Chosen x rules (Refused (TwoRulesMet (record { first = a + 1; second = b + 1 })))
+      → Chosen x rules (Refused (OfRules (TwoRulesMet (record { first = a + 1; second = b + 1 }))))

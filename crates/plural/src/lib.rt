@@ -16,6 +16,7 @@ ghost use Rattle.plural.specs.Select.{selection};
 use answer::Keyword;
 use answer::Pair;
 use answer::Refusal;
+use answer::RulesRow;
 use number::Number;
 
 pub enum Selection {
@@ -80,10 +81,10 @@ pub fn select_held<'a>(
     }
     let behind = first + 1;
     let second = behind + u32::trailing_zeros(m >> behind);
-    Selection::Refused(Refusal::TwoRulesMet(Pair {
+    Selection::Refused(Refusal::Rules(RulesRow::TwoRulesMet(Pair {
         first: behind as u8,
         second: (second + 1) as u8,
-    }))
+    })))
 }
 
 // How many rules there is room for.

@@ -12,7 +12,8 @@ use Rattle.decimal.specs.Digits.{figures}
 use Rattle.decimal.proofs.Choices.{tested}
 use Rattle.decimal.proofs.Values.{power-mono}
 use Rattle.decimal.proofs.Figured.{length-figures}
-use Rattle.answer.specs.declared.Refusal.the-variants.{AreaTooShort}
+use Rattle.answer.specs.declared.Refusal.the-variants.{Print as OfPrint}
+use Rattle.answer.specs.declared.PrintRow.the-variants.{AreaTooShort}
 use Rattle.area.specs.Area.{Wrote, most}
 use Rattle.area.proofs.Pieces.{front}
 use Rattle.symbols.specs.declared.Judged.the-variants.{Good}
@@ -78,7 +79,7 @@ pub laid-aside : (t o o′ : List ℕ) (need : ℕ) → need ≡ length t → Wr
 laid-aside t o o′ need e w h = rw (front t w (omega arith), e) (take-append-seam t (drop (length t) o))
 
 pub short-answer : (t area : List ℕ) (need : ℕ) → need ≡ length t → length area < need
-    → (Refused (AreaTooShort need) ≡ answerOf (text t) area) × (area ≡ areaOf (text t) area)
+    → (Refused (OfPrint (AreaTooShort need)) ≡ answerOf (text t) area) × (area ≡ areaOf (text t) area)
 short-answer t area need e h =
     let k : ltb (length area) (length t) ≡ true = lt-ltb (length area) (length t) (omega arith) in
     (rw (k, e), rw k)

@@ -8,7 +8,8 @@ use lib.Dec.{ltb}
 use lib.ListN.{length, drop}
 use Rattle.decimal.proofs.Choices.{tested, choice, never}
 use Rattle.answer.specs.declared.Refusal.{Refusal}
-use Rattle.answer.specs.declared.Refusal.the-variants.{AreaTooShort}
+use Rattle.answer.specs.declared.Refusal.the-variants.{Print as OfPrint}
+use Rattle.answer.specs.declared.PrintRow.the-variants.{AreaTooShort}
 use Rattle.symbols.specs.declared.Judged.{Judged}
 use Rattle.symbols.specs.declared.Judged.the-variants.{Good, Refused as SymbolsRefused}
 use Rattle.symbols.specs.Entries.{readSymbols}
@@ -60,15 +61,15 @@ verdict-only house s t (prints p n x h) = rw (x .symbols, x .pattern, x .number,
 -- ---- the area: "A refusal writes nothing; a success writes its text at the front and no byte beyond, and returns its length."
 
 -- 51's figure is the text's length, and the area has fewer bytes
-pub area-short : (t area : List ℕ) (k : ℕ) → answerOf (text t) area ≡ Refused (AreaTooShort k) → (k ≡ length t) × (length area < length t)
+pub area-short : (t area : List ℕ) (k : ℕ) → answerOf (text t) area ≡ Refused (OfPrint (AreaTooShort k)) → (k ≡ length t) × (length area < length t)
 area-short t area k e =
     tested (tooLong t area)
     (λ h.
-    let f : Refused (AreaTooShort (length t)) ≡ Refused (AreaTooShort k) = rw h at e in
+    let f : Refused (OfPrint (AreaTooShort (length t))) ≡ Refused (OfPrint (AreaTooShort k)) = rw h at e in
     let g : length t ≡ k = cc in
     (sym g, ltb-true (length area) (length t) h))
     (λ h.
-    let f : Text (length t) ≡ Refused (AreaTooShort k) = rw h at e in
+    let f : Text (length t) ≡ Refused (OfPrint (AreaTooShort k)) = rw h at e in
     let z : _≡_ {A = ℕ} 0 1 = cc in
     never z)
 
@@ -79,7 +80,7 @@ area-text (refused r) area k e = let z : _≡_ {A = ℕ} 0 1 = cc in never z
 area-text (text t) area k e =
     tested (tooLong t area)
     (λ h.
-    let f : Refused (AreaTooShort (length t)) ≡ Text k = rw h at e in
+    let f : Refused (OfPrint (AreaTooShort (length t))) ≡ Text k = rw h at e in
     let z : _≡_ {A = ℕ} 0 1 = cc in
     never z)
     (λ h.

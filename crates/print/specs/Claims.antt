@@ -3,7 +3,8 @@ use mathlib.Core.Path.{_≡_}
 use mathlib.Core.List.{List}
 use Prim.Native.Nat.{ℕ, _<_}
 use Rattle.answer.specs.declared.Refusal.{Refusal}
-use Rattle.answer.specs.declared.Refusal.the-variants.{PrintedExponent}
+use Rattle.answer.specs.declared.Refusal.the-variants.{Print as OfPrint}
+use Rattle.answer.specs.declared.PrintRow.the-variants.{PrintedExponent}
 use Rattle.symbols.specs.declared.Judged.the-variants.{Good, Refused as SymbolsRefused}
 use Rattle.symbols.specs.Entries.{readSymbols, symbolIn, standardRecord}
 use Rattle.pattern.specs.declared.Pattern.{Pattern}
@@ -26,5 +27,5 @@ pub data Verdict (house s t : List ℕ) : Outcome → Type 0 where
   by-pattern : (r : Refusal) → readSymbols house ≡ Good → readPattern s ≡ PatternRefused r → Verdict house s t (refused r)
   by-number : (r : Refusal) (p : Pattern) → readSymbols house ≡ Good → readPattern s ≡ PatternIs p → readNumber t ≡ NumberRefused r
       → Verdict house s t (refused r)
-  by-exponent : (p : Pattern) (n : Number) → Read house s t p n → 0 < n .e → Verdict house s t (refused PrintedExponent)
+  by-exponent : (p : Pattern) (n : Number) → Read house s t p n → 0 < n .e → Verdict house s t (refused (OfPrint PrintedExponent))
   prints : (p : Pattern) (n : Number) → Read house s t p n → n .e ≡ 0 → Verdict house s t (text (textOf (symbolIn house standardRecord) s p n))

@@ -14,6 +14,7 @@ ghost use Rattle.pattern.specs.Reading.{readPattern};
 ghost use Rattle.number.specs.Reading.{readNumber};
 ghost use Rattle.layout.specs.Text.{affixesOf, laidOut, textOf};
 ghost use Rattle.print.specs.Outcome.{text, ofNumber, afterNumber, afterPattern, outcome, answerOf, areaOf};
+use answer::PrintRow;
 use answer::Refusal;
 use number::Number;
 use number::Reading;
@@ -48,7 +49,7 @@ fn print_digits(
     let mut aside = [0u8; ROOM];
     let need = layout::write_text(&mut aside, house, pattern, p, a, digits);
     if out.len() < need {
-        return Printed::Refused(Refusal::AreaTooShort(need));
+        return Printed::Refused(Refusal::Print(PrintRow::AreaTooShort(need)));
     }
     if need <= ROOM {
         area::append(out, 0, decimal::cut::upto(&aside, need));
@@ -66,7 +67,7 @@ fn print_number(house: &[u8], pattern: &[u8], p: Pattern, n: Number, out: &mut [
     ensures { λ _. ⌜ now (out .exit) ≡ areaOf (ofNumber (now (house .entry)) (now (pattern .entry)) p n) (now (out .entry)) ⌝ }
 {
     if 0 < n.e {
-        return Printed::Refused(Refusal::PrintedExponent);
+        return Printed::Refused(Refusal::Print(PrintRow::PrintedExponent));
     }
     let v = n.v;
     let f = n.f;
