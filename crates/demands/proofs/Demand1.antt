@@ -47,7 +47,7 @@ use Rattle.pattern_grammar.specs.Verdict.Verdict.{too-long as long-pattern, not
 use Rattle.print.specs.declared.Printed.{Printed}
 use Rattle.print.specs.declared.Printed.the-variants.{Text, Refused as PrintRefused}
 use Rattle.print.specs.Outcome.{outcome, answerOf, areaOf}
-use Rattle.print.proofs.Theorems.{area-kept}
+use Rattle.print_grammar.proofs.Theorems.{area-kept}
 use Rattle.screen.specs.Entries.{noted, operandsOf, wordNumber, readCode, readFigures, selectCode, selectFigures, checkCode, checkFigures, printCode, printFigures}
 use Rattle.screen.proofs.Noted.{noted-front}
 use Rattle.demands.specs.Verdicts.{NumberVerdict, PackVerdict, SelectVerdict, CheckVerdict, PrintVerdict}

@@ -55,15 +55,15 @@ use Rattle.pattern.specs.Reading.{readPattern}
 use Rattle.pattern_grammar.specs.Verdict.{Verdict as PatternVerdict}
 use Rattle.pattern_grammar.proofs.Verdicts.{verdict-given as pattern-given, verdict-found as pattern-found}
 use Rattle.layout.specs.Text.{textOf}
-use Rattle.print.specs.Text.{PrintedText}
+use Rattle.print_grammar.specs.Text.{PrintedText}
 use Rattle.print.specs.declared.Printed.{Printed}
 use Rattle.print.specs.declared.Printed.the-variants.{Text, Refused as PrintRefused}
 use Rattle.print.specs.Outcome.{Outcome, outcome, answerOf, areaOf}
 use Rattle.print.specs.Outcome.Outcome.{text as ToText, refused as ToRefuse}
-use Rattle.print.specs.Claims.{Read, Verdict}
-use Rattle.print.specs.Claims.Verdict.{by-symbols as outcome-by-symbols, by-pattern as outcome-by-pattern, by-number as outcome-by-number, by-exponent as outcome-by-exponent, prints as outcome-prints}
-use Rattle.print.proofs.Theorems.{verdict-found, verdict-only}
-use Rattle.print.proofs.Texts.{printed-text}
+use Rattle.print_grammar.specs.Claims.{Read, Verdict}
+use Rattle.print_grammar.specs.Claims.Verdict.{by-symbols as outcome-by-symbols, by-pattern as outcome-by-pattern, by-number as outcome-by-number, by-exponent as outcome-by-exponent, prints as outcome-prints}
+use Rattle.print_grammar.proofs.Theorems.{verdict-found, verdict-only}
+use Rattle.print_grammar.proofs.Texts.{printed-text}
 use Rattle.demands.specs.Verdicts.{NumberVerdict, PackVerdict, SelectVerdict, CheckVerdict, Printable, PrintVerdict}
 use Rattle.demands.specs.Verdicts.NumberVerdict.{row, read}
 use Rattle.demands.specs.Verdicts.PackVerdict.{too-long, not-a-pack, faulty, read as read-pack}

@@ -38,7 +38,7 @@ use Rattle.symbols_grammar.specs.Record.{Verdict as SymbolsVerdict, SymbolIs}
 use Rattle.pattern.specs.declared.Pattern.{Pattern}
 use Rattle.pattern.specs.declared.PatternReading.the-variants.{Is as PatternIs, Refused as PatternRefused}
 use Rattle.pattern_grammar.specs.Verdict.{Verdict as PatternVerdict}
-use Rattle.print.specs.Text.{PrintedText}
+use Rattle.print_grammar.specs.Text.{PrintedText}
 use Rattle.print.specs.declared.Printed.{Printed}
 use Rattle.print.specs.declared.Printed.the-variants.{Text, Refused as PrintRefused}
 

@@ -33,11 +33,11 @@ use Rattle.layout.specs.Text.{affixText, negativeAffixes, affixesOf, digitsOf, 
 use Rattle.layout.specs.Claims.{ShownDigits}
 use Rattle.layout.proofs.Shown.{digits-shown, shown-only}
 use Rattle.layout.proofs.Groups.{mark-sound, mark-complete, grouped-none}
-use Rattle.print.specs.Text.{AffixesText, Around, positive, minus, own, Grouped, none, plain, ended, pointBefore, PrintedText}
+use Rattle.print_grammar.specs.Text.{AffixesText, Around, positive, minus, own, Grouped, none, plain, ended, pointBefore, PrintedText}
 use Rattle.print.proofs.Ready.{ready-within}
-use Rattle.print.specs.Clean.{CleanAffixes, PatternClean}
-use Rattle.print.proofs.Cuts.{pattern-clean}
-use Rattle.print.proofs.Affixes.{affix-text}
+use Rattle.print_grammar.specs.Clean.{CleanAffixes, PatternClean}
+use Rattle.print_grammar.proofs.Cuts.{pattern-clean}
+use Rattle.print_grammar.proofs.Affixes.{affix-text}
 
 -- ---- groups
 

@@ -21,9 +21,9 @@ use Rattle.number.specs.declared.Number.{Number}
 use Rattle.number.specs.declared.Reading.{Reading}
 use Rattle.number.specs.declared.Reading.the-variants.{Is as NumberIs, Refused as NumberRefused}
 use Rattle.number.specs.Reading.{readNumber}
 use Rattle.print.specs.declared.Printed.the-variants.{Text, Refused}
 use Rattle.print.specs.Outcome.{Outcome, text, refused, ofNumber, afterNumber, afterPattern, afterSymbols, outcome, tooLong, answerOf, areaOf}
-use Rattle.print.specs.Claims.{Read, Verdict, by-symbols, by-pattern, by-number, by-exponent, prints}
+use Rattle.print_grammar.specs.Claims.{Read, Verdict, by-symbols, by-pattern, by-number, by-exponent, prints}
 
 -- ---- "Printing tests symbols, pattern, number, 50": every outcome has its reason
 

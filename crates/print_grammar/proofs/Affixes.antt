@@ -20,8 +20,8 @@ use Rattle.symbols.specs.declared.Symbol.{Symbol}
 use Rattle.pattern_grammar.specs.Grammar.{isBare, IsAffix, done as no-more, apostrophe as pair, quote as mark, literal as inside, bare}
 use Rattle.pattern_grammar.proofs.Affixes.{bare-parts, single}
 use Rattle.layout.specs.Text.{rendered}
-use Rattle.print.specs.Text.{isLiteral, AffixText, done, apostrophe, quote, quoted, percent, plus, minus, permille-mark, literal}
-use Rattle.print.specs.Clean.{CleanAffix}
+use Rattle.print_grammar.specs.Text.{isLiteral, AffixText, done, apostrophe, quote, quoted, percent, plus, minus, permille-mark, literal}
+use Rattle.print_grammar.specs.Clean.{CleanAffix}
 
 -- ---- tokens
 

@@ -30,7 +30,7 @@ use Rattle.pattern_grammar.proofs.Affixes.{stops, affix-found}
 use Rattle.pattern_grammar.proofs.Reserved.{plain-items}
 use Rattle.pattern_grammar.proofs.Subpatterns.{ends, read-sub}
 use Rattle.pattern_grammar.proofs.Texts.{read-plain, one-read, two-read}
-use Rattle.print.specs.Clean.{CleanAffix, CleanAffixes, PatternClean}
+use Rattle.print_grammar.specs.Clean.{CleanAffix, CleanAffixes, PatternClean}
 
 -- ---- a text before a number part, a semicolon or the end
 

@@ -1,0 +1,4 @@
+pub mod Cuts
+pub mod Affixes
+pub mod Texts
+pub mod Theorems
