@@ -17,7 +17,7 @@ use Rattle.pattern.specs.declared.Negative.{Negative}
 use Rattle.pattern.specs.declared.Negative.the-variants.{MinusSymbol, Own}
 use Rattle.pattern.specs.declared.Pattern.{Pattern}
 use Rattle.number.specs.declared.Number.{Number}
-use Rattle.rounding.specs.Nearest.{unitsOf}
+use Rattle.nearest.specs.Nearest.{unitsOf}
 use Rattle.rounding.specs.Limits.{width}
 use Rattle.layout.specs.declared.Affixes.{Affixes}
 use Rattle.layout.specs.Layout.{wholeDigits, fractionDigits, zeroDigit, body}

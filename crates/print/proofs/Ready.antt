@@ -29,7 +29,7 @@ use Rattle.pattern.specs.Limits.{maxBytes}
 use Rattle.pattern.specs.Reading.{readPattern}
 use Rattle.pattern_grammar.proofs.Verdicts.{not-read}
 use Rattle.pattern_grammar.proofs.Bounds.{read-bounds, read-factor}
-use Rattle.rounding.specs.Nearest.{unitsOf}
+use Rattle.nearest.specs.Nearest.{unitsOf}
 use Rattle.rounding.specs.Limits.{within, width, rounded}
 use Rattle.rounding.proofs.Arithmetic.{fits-within}
 use Rattle.layout.specs.Text.{affixesOf, digitsOf, textOf}

@@ -1,3 +1,5 @@
+pub mod Shown
+pub mod Groups
 pub mod Cuts
 pub mod Affixes
 pub mod Texts

@@ -23,16 +23,16 @@ use Rattle.pattern.specs.declared.PatternReading.the-variants.{Is as PatternIs}
 use Rattle.pattern.specs.Limits.{maxWhole, maxFraction}
 use Rattle.pattern.specs.Reading.{readPattern}
 use Rattle.pattern_grammar.proofs.Bounds.{read-bounds}
-use Rattle.rounding.specs.Nearest.{unitsOf}
+use Rattle.nearest.specs.Nearest.{unitsOf}
 use Rattle.rounding.specs.Limits.{width}
-use Rattle.rounding.proofs.Nearest.{units-permitted, permitted-only}
+use Rattle.nearest.proofs.Nearest.{units-permitted, permitted-only}
 use Rattle.rounding.proofs.Arithmetic.{within-fits, units-room, value-room}
 use Rattle.layout.specs.declared.Affixes.{Affixes}
 use Rattle.layout.specs.Layout.{wholeDigits, fractionDigits, zeroDigit, spell, spelled, mark, grouped}
 use Rattle.layout.specs.Text.{affixText, negativeAffixes, affixesOf, digitsOf, textOf}
-use Rattle.layout.specs.Claims.{ShownDigits}
-use Rattle.layout.proofs.Shown.{digits-shown, shown-only}
-use Rattle.layout.proofs.Groups.{mark-sound, mark-complete, grouped-none}
+use Rattle.print_grammar.specs.Digits.{ShownDigits}
+use Rattle.print_grammar.proofs.Shown.{digits-shown, shown-only}
+use Rattle.print_grammar.proofs.Groups.{mark-sound, mark-complete, grouped-none}
 use Rattle.print_grammar.specs.Text.{AffixesText, Around, positive, minus, own, Grouped, none, plain, ended, pointBefore, PrintedText}
 use Rattle.print.proofs.Ready.{ready-within}
 use Rattle.print_grammar.specs.Clean.{CleanAffixes, PatternClean}

@@ -16,9 +16,9 @@ use Rattle.pattern.specs.declared.Negative.the-variants.{MinusSymbol, Own}
 use Rattle.pattern.specs.declared.Pattern.{Pattern}
 use Rattle.pattern_grammar.specs.Grammar.{isBare}
 use Rattle.pattern_grammar.specs.Texts.{textAt}
-use Rattle.rounding.specs.Nearest.{Permitted}
+use Rattle.nearest.specs.Nearest.{Permitted}
 use Rattle.layout.specs.Layout.{zeroDigit, spell, spelled}
-use Rattle.layout.specs.Claims.{ShownDigits, GroupEnds}
+use Rattle.print_grammar.specs.Digits.{ShownDigits, GroupEnds}
 
 -- ---- affixes
 

@@ -18,7 +18,7 @@ use Rattle.decimal.proofs.Runs.{digit-bounds, digits-head}
 use Rattle.decimal.proofs.Values.{value-snoc, value-more, value-lt, power-mono, power-pos}
 use Rattle.decimal.proofs.Figured.{length-figures, digits-figures, value-figures, figures-of, figures-start, figures-again}
 use Rattle.decimal.proofs.Zeros.{lead-le}
-use Rattle.rounding.specs.Nearest.{up, stepsOf, exact, unitsOf}
+use Rattle.nearest.specs.Nearest.{up, stepsOf, exact, unitsOf}
 use Rattle.rounding.specs.Limits.{width, maxInteger, maxPlaces, maxFraction, maxFactor, maxStep, within}
 
 -- ---- a multiplication, from the last digit on

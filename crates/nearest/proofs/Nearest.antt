@@ -6,7 +6,7 @@ use native.Mathlib.Nat.{add-zero, div-add-mod', mod-lt, mul-le-mul-right, mul-le
 use native.Mathlib.Decide.{decLe, ℕ-discrete}
 use borrow.Author.Tests.{lt-ltb, le-ltb}
 use Rattle.decimal.proofs.Values.{power-pos}
-use Rattle.rounding.specs.Nearest.{apart, NearestEven, stepsOf, exact, unitsOf, Permitted}
+use Rattle.nearest.specs.Nearest.{apart, NearestEven, stepsOf, exact, unitsOf, Permitted}
 
 -- by cases: at most, or more
 pub by-le : {P : Type 0} (a b : ℕ) → (a ≤ b → P) → (b < a → P) → P

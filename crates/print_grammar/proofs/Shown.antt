@@ -17,8 +17,8 @@ use Rattle.decimal.proofs.Runs.{digits-take, digits-drop}
 use Rattle.decimal.proofs.Values.{power-pos, value-append, value-from, value-lt}
 use Rattle.decimal.proofs.Zeros.{lead-le, lead-stop, value-shown, trim-front, trim-last}
 use Rattle.decimal.proofs.Unique.{power-cancel, same-digits, longer-leads, longer-trails}
 use Rattle.layout.specs.Layout.{wholeDigits, kept, fractionDigits}
-use Rattle.layout.specs.Claims.{ShownDigits}
+use Rattle.print_grammar.specs.Digits.{ShownDigits}
 
 -- ---- trailing zeros
 

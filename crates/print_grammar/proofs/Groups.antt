@@ -11,8 +11,8 @@ use lib.Arith.{digits-mod}
 use lib.Dec.{ltb, eqb}
 use lib.ListN.{length}
 use Rattle.decimal.proofs.Choices.{tested, not-both}
 use Rattle.layout.specs.Layout.{spell, spelled, mark, grouped}
-use Rattle.layout.specs.Claims.{GroupEnds}
+use Rattle.print_grammar.specs.Digits.{GroupEnds}
 
 -- behind a digit with `left` digits to come a symbol stands exactly where a group ends
 pub mark-sound : (primary secondary left : ℕ) → mark primary secondary left ≡ true → GroupEnds primary secondary left
