@@ -11,9 +11,9 @@ use Rattle.answer.specs.declared.RulesRow.the-variants.{TwoRulesMet, Rul
 use Rattle.answer.specs.declared.PrintRow.the-variants.{PrintedExponent, AreaTooShort}
 use Rattle.answer.specs.Table.{figuresOf}
 use Rattle.answer.specs.Words.{spelling}
-use Rattle.answer.specs.Lists.{padded, figureList, letterList}
+use Rattle.answer.specs.Lists.{padded, maxFigures, figureList, letterList}
 
-figures-taken : (r : Refusal) → take (length (figuresOf r)) (padded 7 (figuresOf r)) ≡ figuresOf r
+figures-taken : (r : Refusal) → take (length (figuresOf r)) (padded maxFigures (figuresOf r)) ≡ figuresOf r
 figures-taken (Number row) = refl
 figures-taken PackTooLong = refl
 figures-taken (Pack row at) = refl

@@ -91,10 +91,13 @@ pub enum Refusal {
     Print(PrintRow),
 }
 
+// No row has more figures.
+pub const MAX_FIGURES: usize = 7;
+
 // The figures of a refusal: the first `count` of `values`, and zeros behind them.
 pub struct FigureList {
     pub count: usize,
-    pub values: [u64; 7],
+    pub values: [u64; MAX_FIGURES],
 }
 
 fn number_row(r: NumberRow) -> u8
@@ -184,7 +187,7 @@ fn none() -> FigureList
 {
     FigureList {
         count: 0,
-        values: [0; 7],
+        values: [0; MAX_FIGURES],
     }
 }
 

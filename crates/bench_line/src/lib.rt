@@ -12,6 +12,7 @@ ghost use Rattle.bench_line.specs.Stream.{cutAnswer};
 ghost use Rattle.print.specs.Outcome.{outcome};
 use answer::FigureList;
 use answer::Keyword;
+use answer::MAX_FIGURES;
 use answer::Refusal;
 use decimal::num::wide_byte;
 use line::JobCut;
@@ -45,7 +46,7 @@ fn append_figures(out: &mut [u8], at: usize, f: FigureList) -> usize
     let values = f.values;
     let mut end = at;
     let mut k = 0;
-    while k < 6 {
+    while k < MAX_FIGURES {
         if f.count <= k {
             return end;
         }

@@ -7,8 +7,8 @@ use native.Mathlib.Omega.{arith}
 use native.Mathlib.Nat.{pow-suc, mod-eq-of-lt, mul-assoc, mul-mod-left, mul-le-mul-right, eq-of-mul-eq-mul-right}
 use lib.Pow.{pow-add}
 use lib.ListN.{length}
-use Rattle.decimal.specs.Digits.{AllDigits, trim, figures}
-use Rattle.decimal.proofs.Runs.{digits-take}
+use Rattle.decimal.specs.Digits.{AllDigits, trim, figures, isDigit}
+use Rattle.decimal.proofs.Runs.{of-take}
 use Rattle.decimal.proofs.Values.{value-lt, power-pos}
 use Rattle.decimal.proofs.Zeros.{trim-le, trim-front, value-trim, trim-last}
 use Rattle.decimal.proofs.Figured.{length-figures, digits-figures, value-figures}
@@ -26,7 +26,7 @@ parts v f h =
     record {
       w-le = omega (arith, trim-le (figures v f), length-figures v f);
       whole = whole;
-      t-lt = value-lt (trim (figures v f)) (subst (λ (l : List ℕ). AllDigits l) (sym (trim-front (figures v f))) (digits-take (length (trim (figures v f))) (figures v f) (digits-figures v f)));
+      t-lt = value-lt (trim (figures v f)) (subst (λ (l : List ℕ). AllDigits l) (sym (trim-front (figures v f))) (of-take isDigit (length (trim (figures v f))) (figures v f) (digits-figures v f)));
       odd = λ n z. ⊎-elim (λ e. n (ap length e)) (λ e. e z) (trim-last 0 (figures v f) (digits-figures v f));
     }
   where

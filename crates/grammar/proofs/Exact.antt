@@ -14,10 +14,11 @@ use Rattle.grammar.specs.Steps.Read.{Whole, Cut}
 use Rattle.token.specs.Token.{Token}
 use Rattle.grammar.specs.Reader.{segments, isDead, Parsed, rulesFrom}
 use Rattle.grammar.specs.Reader.Parsed.{Trees, Bad}
-use Rattle.token.proofs.Spellings.{both-0, both-1, both-in}
+use Rattle.token.proofs.Spellings.{both-0, both-1}
 use Rattle.grammar.proofs.Sound.{told-rule}
 use Rattle.grammar.proofs.Complete.{complete}
 use Rattle.grammar.proofs.Viable.{Far, onward, closed, far, outset, far-append, far-rule, whole-alive, alive-before, been, halt, last, behind, same-halt, plain-segments, some-segments, firstOf, othersOf, packEnd, tokensOf}
+use Rattle.decimal.proofs.Choices.{both-in}
 
 bad-rules : {A : Type 0} {a : ℕ} {rs : List RuleTree} → Bad a ≡ Trees rs → A
 bad-rules e = absurd (let z : _≡_ {A = ℕ} 0 1 = cc in omega arith)

@@ -18,8 +18,8 @@ use Rattle.token.specs.Token.{Token, tokensFor, tokens, pieceLen, isWhite}
 use Rattle.grammar.specs.Reader.{isDead, Stop, atEnd, stop, trouble, Fault, orElse, faultIn, again, keywordIn}
 use Rattle.grammar.specs.Reader.Stop.{Fine, Stuck}
 use Rattle.grammar.specs.Reader.Fault.{None, At}
-use Rattle.decimal.proofs.Choices.{choice}
-use Rattle.token.proofs.Spellings.{both-0, both-1, both-in}
+use Rattle.decimal.proofs.Choices.{choice, both-in}
+use Rattle.token.proofs.Spellings.{both-0, both-1}
 use Rattle.grammar.proofs.Laws.{no-way}
 
 texts-any : (k a b : ℕ) (s : Text) → texts (tokensFor k a s) ≡ texts (tokensFor k b s)

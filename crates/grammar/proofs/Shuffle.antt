@@ -25,11 +25,12 @@ use Rattle.grammar.specs.Reader.PackAnswer.{Rules, Refused}
 use Rattle.grammar.specs.RuleOf.{ruleOf}
 use Rattle.answer.specs.declared.Refusal.the-variants.{PackTooLong}
 use Rattle.rules.specs.Syntax.{Rule}
-use Rattle.token.proofs.Spellings.{both-0, both-1, both-in}
+use Rattle.token.proofs.Spellings.{both-0, both-1}
 use Rattle.grammar.proofs.Laws.{no-way, map-append}
 use Rattle.grammar.proofs.Sound.{sound}
 use Rattle.grammar.proofs.Complete.{complete}
 use Rattle.grammar.proofs.Places.{words-at, fine-whole, whole-fine, clean, or-0, or-1, none-clean, clean-none, firstOf, keyword-first, fresh, again-fresh, fresh-again}
+use Rattle.decimal.proofs.Choices.{both-in}
 
 abbrev isWhole : Read → Bool
 isWhole (Whole r) = true

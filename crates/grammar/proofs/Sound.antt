@@ -13,8 +13,8 @@ use Rattle.grammar.specs.Grammar.RuleTree.{Named}
 use Rattle.grammar.specs.Steps.{Front, State, goOn, signed, step, steps, Read, ends}
 use Rattle.grammar.specs.Steps.State.{WantsName, WantsColon, WantsNothing, WantsOperand, HasOperand, WantsModulus, HasModulus, WantsValue, HasValue, WantsUpper, HasUpper, Dead}
 use Rattle.grammar.specs.Steps.Read.{Whole, Cut}
-use Rattle.decimal.proofs.Choices.{choice}
-use Rattle.token.proofs.Spellings.{both-in, same-eq}
+use Rattle.decimal.proofs.Choices.{choice, both-in}
+use Rattle.token.proofs.Spellings.{same-eq}
 use Rattle.grammar.proofs.Laws.{each-snoc, all-snoc}
 
 unfoldable pub ofFront : Front → List Text

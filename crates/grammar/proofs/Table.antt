@@ -9,13 +9,12 @@ use lib.Dec.{eqb, ltb}
 use lib.ListN.{length, getD}
 use borrow.Author.Tests.{ltb-true, ltb-false, lt-ltb, le-ltb, eqb-true, eqb-false}
 use Rattle.decimal.specs.Choice.{if_then_else_}
-use Rattle.decimal.proofs.Choices.{choice, tested}
+use Rattle.decimal.proofs.Choices.{choice, tested, both-in}
 use Rattle.answer.specs.Table.{packRow, figuresOf}
 use Rattle.answer.specs.declared.PackRow.{PackRow}
 use Rattle.answer.specs.declared.PackRow.the-variants.{NotAPack}
 use Rattle.answer.specs.declared.Refusal.the-variants.{PackTooLong}
 use Rattle.rules.specs.Syntax.{Rule}
-use Rattle.token.proofs.Spellings.{both-in}
 use Rattle.token.specs.Token.{Token, tokens}
 use Rattle.grammar.specs.Limits.{maxBytes}
 use Rattle.grammar.specs.Grammar.{Text, RuleTree, PackTree, rulesOf, semi, each, ofRule, ofPack, rightPack}

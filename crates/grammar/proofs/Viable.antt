@@ -20,11 +20,12 @@ use Rattle.grammar.specs.Steps.Read.{Whole, Cut}
 use Rattle.grammar.specs.Reader.{segments, isDead, Stop, atEnd, stop, Parsed, andThen, rulesFrom}
 use Rattle.grammar.specs.Reader.Stop.{Fine, Stuck}
 use Rattle.grammar.specs.Reader.Parsed.{Trees, Bad}
-use Rattle.token.proofs.Spellings.{both-0, both-1, both-in, same-eq}
+use Rattle.token.proofs.Spellings.{both-0, both-1, same-eq}
 use Rattle.grammar.proofs.Laws.{no-way, each-snoc, all-snoc}
 use Rattle.grammar.proofs.Sound.{Reached, reaches, arrives, told-rule}
 use Rattle.grammar.proofs.Complete.{complete}
 use Rattle.grammar.proofs.Places.{dead-stays, dead-is}
+use Rattle.decimal.proofs.Choices.{both-in}
 
 -- A whole pack read token by token: the rules that are whole, and the state in the one being read.
 pub record Far : Type 0 where

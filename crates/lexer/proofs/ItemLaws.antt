@@ -18,7 +18,7 @@ use Rattle.lexer.specs.declared.Token.{Token}
 use Rattle.lexer.specs.declared.Affix.{Affix}
 use Rattle.lexer.specs.Items.{starts, apostrophe, permille, currency, bareOf, tokenAt, token, quotedAfter, isNumber, itemsFrom, items}
 use Rattle.lexer.specs.Affixes.{reserves, anyReserved, endsAffix, longer, affixFrom, affix, weight, marks}
-use Rattle.lexer.proofs.Lower.{drop-some}
+use Rattle.decimal.proofs.Runs.{drop-some}
 
 -- ---- a text begins with a word
 

@@ -1,3 +1,2 @@
-pub mod Lower
 pub mod ItemLaws
 pub mod Firsts

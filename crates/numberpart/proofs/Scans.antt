@@ -11,18 +11,7 @@ use lib.Dec.{eqb}
 use lib.ListN.{length, getD, take, drop, drop-of-length-le, length-drop}
 use lib.Seq.{drop-cons, take-suc, length-take-le, getD-drop}
 use Rattle.decimal.proofs.Choices.{tested}
-use Rattle.numberpart.specs.Shape.{find, between, count, misplaced, seenAfter, ordered, badComma, apart, hashes, last, primaryOf, front, secondaryOf}
-
--- ---- the first b
-
-pub find-more : (b : ℕ) (s : List ℕ) (i : ℕ) → i < length s → (getD s i 0 ≡ b → ⊥) → find b (drop i s) ≡ 1 + find b (drop (i + 1) s)
-find-more b s i h e = rw (add-one, drop-cons s i 0 h, ne-eqb _ _ e) (omega arith)
-
-pub find-end : (b : ℕ) (s : List ℕ) (i : ℕ) → i < length s → getD s i 0 ≡ b → find b (drop i s) ≡ 0
-find-end b s i h e = rw (drop-cons s i 0 h, eq-eqb _ _ e)
-
-pub find-out : (b : ℕ) (s : List ℕ) (i : ℕ) → length s ≤ i → find b (drop i s) ≡ 0
-find-out b s i h = rw (drop-of-length-le s h)
+use Rattle.numberpart.specs.Shape.{between, count, misplaced, seenAfter, ordered, badComma, apart, last, primaryOf, front, secondaryOf}
 
 -- ---- counts
 
@@ -47,17 +36,6 @@ ordered-more q s i h e = rw (add-one, drop-cons s i 0 h, e)
 
 pub ordered-out : (q : Bool) (s : List ℕ) (i : ℕ) → length s ≤ i → ordered q (drop i s) ≡ true
 ordered-out q s i h = rw (drop-of-length-le s h)
-
--- ---- `#` at the front
-
-pub hashes-more : (s : List ℕ) (i : ℕ) → i < length s → getD s i 0 ≡ 35 → hashes (drop i s) ≡ 1 + hashes (drop (i + 1) s)
-hashes-more s i h e = rw (add-one, drop-cons s i 0 h, eq-eqb _ _ e) (omega arith)
-
-pub hashes-end : (s : List ℕ) (i : ℕ) → i < length s → (getD s i 0 ≡ 35 → ⊥) → hashes (drop i s) ≡ 0
-hashes-end s i h e = rw (drop-cons s i 0 h, ne-eqb _ _ e)
-
-pub hashes-out : (s : List ℕ) (i : ℕ) → length s ≤ i → hashes (drop i s) ≡ 0
-hashes-out s i h = rw (drop-of-length-le s h)
 
 -- ---- the last b, seen from the end
 

@@ -4,22 +4,19 @@ use mathlib.Core.List.{List, [], _∷_}
 use Prim.Native.Nat.{ℕ, zero, suc, _+_, _*_, _-_, min}
 use lib.Dec.{ltb, eqb}
 use lib.ListN.{length, getD, take, drop}
+use Rattle.decimal.specs.Lists.{runOf}
 use Rattle.decimal.specs.Choice.{if_then_else_}
 use Rattle.decimal.specs.Digits.{isDigit, begins, run}
+use Rattle.decimal.specs.Split.{until}
 use Rattle.numberpart.specs.declared.Shape.{Shape}
 
 -- ---- both sides of the point
 
--- how many bytes stand before the first b
-abbrev pub find : ℕ → List ℕ → ℕ
-find b [] = 0
-find b (x ∷ s) = if eqb x b then 0 else suc (find b s)
-
 abbrev pub wholeOf : List ℕ → List ℕ
-wholeOf n = take (find 46 n) n
+wholeOf n = take (until 46 n) n
 
 abbrev pub fractionOf : List ℕ → List ℕ
-fractionOf n = drop (find 46 n + 1) n
+fractionOf n = drop (until 46 n + 1) n
 
 -- how many bytes there are from `low` to `high`
 abbrev pub between : ℕ → ℕ → ℕ → Bool
@@ -57,10 +54,12 @@ apart (b ∷ s) = if badComma b s then false else apart s
 abbrev pub wholeFits : List ℕ → Bool
 wholeFits s = if begins 44 s then false else if apart s then ordered false s else false
 
+abbrev pub isHash : ℕ → Bool
+isHash b = eqb b 35
+
 -- how many `#` a text begins with
 abbrev pub hashes : List ℕ → ℕ
-hashes [] = 0
-hashes (b ∷ s) = if eqb b 35 then suc (hashes s) else 0
+hashes s = runOf isHash s
 
 abbrev pub fractionFits : List ℕ → Bool
 fractionFits s = eqb (run s + hashes (drop (run s) s)) (length s)

@@ -6,7 +6,7 @@ ghost use mathlib.Core.Bool.{false};
 ghost use mathlib.Core.List.{[], _∷_};
 ghost use Prim.Native.Nat.{_+_, _-_, _≤_, _<_, min};
 ghost use lib.ListN.{length, getD, drop};
-ghost use Rattle.numberpart.specs.Shape.{find, between, count, misplaced, seenAfter, ordered, badComma, apart, wholeFits, hashes, fractionFits, numberFits, last, primaryOf, secondaryOf, unit, unitsFrom, stepOf, shapeOf, stepCap, capped};
+ghost use Rattle.numberpart.specs.Shape.{between, count, misplaced, seenAfter, ordered, badComma, apart, wholeFits, hashes, fractionFits, numberFits, last, primaryOf, secondaryOf, unit, unitsFrom, stepOf, shapeOf, stepCap, capped};
 use decimal::cut;
 use decimal::scan;
 use decimal::value::digit_value;
@@ -25,20 +25,6 @@ pub struct Shape {
     pub primary: usize,
     pub secondary: usize,
     pub step: u64,
-}
-
-// How many bytes stand before the first b.
-fn find_byte(s: &[u8], b: u8) -> usize
-    ensures { λ r. ⌜ (r ≡ find b (now (s .entry))) × (r ≤ length (now (s .entry))) ⌝ }
-{
-    let mut i = 0;
-    while i < s.len() {
-        if s[i] == b {
-            return i;
-        }
-        i += 1;
-    }
-    i
 }
 
 // 1 where b is from low to high.
@@ -255,7 +241,7 @@ fn step_of(s: &[u8]) -> u64
 fn number_fits(s: &[u8]) -> bool
     ensures { λ r. ⌜ r ≡ numberFits (now (s .entry)) ⌝ }
 {
-    let point = find_byte(s, 46);
+    let point = scan::run_until(s, 46);
     if 0 < count_in(s, 48, 57) {
         if whole_fits(cut::upto(s, point)) {
             return fraction_fits(cut::after(s, point + 1));
@@ -269,7 +255,7 @@ fn number_fits(s: &[u8]) -> bool
 pub fn read_part(s: &[u8]) -> Shape
     ensures { λ r. ⌜ r ≡ capped (shapeOf (now (s .entry))) ⌝ }
 {
-    let point = find_byte(s, 46);
+    let point = scan::run_until(s, 46);
     let whole = cut::upto(s, point);
     let fraction = cut::after(s, point + 1);
     Shape {

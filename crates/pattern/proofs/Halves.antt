@@ -1,4 +1,4 @@
--- Laws of subpatterns: the run of number-part bytes, and the table with the step kept at its bound.
+-- Laws of subpatterns: the table with the step kept at its bound.
 use mathlib.Core.Path.{_≡_, ap, ap₂, _∙_}
 use mathlib.Core.Bool.{true, false}
 use mathlib.Core.List.{List}
@@ -18,17 +18,6 @@ use Rattle.pattern.specs.declared.Negative.{Negative}
 use Rattle.pattern.specs.declared.Negative.the-variants.{MinusSymbol}
 use Rattle.pattern.specs.declared.Half.{Half}
 use Rattle.pattern.specs.Reading.{places, stepOver, judged, ownAffixes, halfOf, endOf, refuse, halves, cappedHalf}
-
--- ---- number-part bytes at the front
-
-pub places-more : (s : List ℕ) (i : ℕ) → i < length s → isPlace (getD s i 0) ≡ true → places (drop i s) ≡ 1 + places (drop (i + 1) s)
-places-more s i h e = rw (add-one, drop-cons s i 0 h, e) (omega arith)
-
-pub places-end : (s : List ℕ) (i : ℕ) → i < length s → isPlace (getD s i 0) ≡ false → places (drop i s) ≡ 0
-places-end s i h e = rw (drop-cons s i 0 h, e)
-
-pub places-out : (s : List ℕ) (i : ℕ) → length s ≤ i → places (drop i s) ≡ 0
-places-out s i h = rw (drop-of-length-le s h)
 
 -- ---- the step kept at its bound
 

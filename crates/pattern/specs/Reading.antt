@@ -4,6 +4,7 @@ use mathlib.Core.List.{List, [], _∷_}
 use Prim.Native.Nat.{ℕ, suc, _+_}
 use lib.Dec.{ltb, eqb}
 use lib.ListN.{length, getD, take, drop}
+use Rattle.decimal.specs.Lists.{runOf}
 use Rattle.decimal.specs.Choice.{if_then_else_, both, either}
 use Rattle.utf8.specs.Utf8.{isUtf8}
 use Rattle.lexer.specs.declared.Affix.{Affix}
@@ -28,8 +29,7 @@ use Rattle.pattern.specs.declared.PatternReading.the-variants.{Is, Refus
 
 -- how many number-part bytes a text begins with
 abbrev pub places : List ℕ → ℕ
-places [] = 0
-places (b ∷ s) = if isPlace b then suc (places s) else 0
+places s = runOf isPlace s
 
 abbrev pub prefixLen : List ℕ → ℕ
 prefixLen s = affix s .len

@@ -10,9 +10,8 @@ use lib.ListN.{length, getD, take, drop, length-drop}
 use lib.Seq.{take-add}
 use Rattle.decimal.specs.Choice.{if_then_else_, both, either}
 use Rattle.decimal.specs.Digits.{isDigit, begins}
-use Rattle.decimal.proofs.Choices.{choice, tested, not-both}
+use Rattle.decimal.proofs.Choices.{choice, tested, not-both, both-true}
 use Rattle.decimal.proofs.Runs.{digit-bounds}
-use Rattle.utf8.proofs.Lower.{both-true}
 use Rattle.lexer.specs.declared.Mark.the-variants.{Permille}
 use Rattle.lexer.specs.declared.Item.{Item}
 use Rattle.lexer.specs.declared.Item.the-variants.{Text, Symbol, Reserved}

@@ -7,8 +7,7 @@ use native.Mathlib.Omega.{arith}
 use borrow.Author.Tests.{ne-eqb, eqb-true, ltb-true, ltb-false}
 use lib.Dec.{eqb, ltb}
 use Rattle.decimal.specs.Choice.{if_then_else_}
-use Rattle.decimal.proofs.Choices.{choice, tested, not-both}
-use Rattle.utf8.proofs.Lower.{both-true}
+use Rattle.decimal.proofs.Choices.{choice, tested, not-both, both-true}
 use Rattle.lexer.specs.declared.Mark.{Mark}
 use Rattle.lexer.specs.declared.Mark.the-variants.{Percent, Permille}
 use Rattle.lexer.specs.declared.Item.{Item}

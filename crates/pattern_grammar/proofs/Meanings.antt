@@ -9,8 +9,7 @@ use borrow.Author.Tests.{eqb-true, eqb-false, lt-ltb, ltb-true, ltb-false}
 use lib.Dec.{eqb, ltb}
 use lib.ListN.{length}
 use Rattle.decimal.specs.Choice.{both, either}
-use Rattle.decimal.proofs.Choices.{tested, not-both}
-use Rattle.utf8.proofs.Lower.{both-true}
+use Rattle.decimal.proofs.Choices.{tested, not-both, both-true}
 use Rattle.lexer.specs.declared.Affix.{Affix}
 use Rattle.lexer.specs.declared.Mark.{Mark}
 use Rattle.lexer.specs.declared.Mark.the-variants.{Percent, Permille}

@@ -8,9 +8,8 @@ use borrow.Author.Tests.{eq-eqb, ne-eqb, lt-ltb, le-ltb, ltb-true, ltb-false}
 use lib.Dec.{eqb, ltb}
 use lib.ListN.{length, getD, drop, length-append}
 use Rattle.decimal.specs.Choice.{if_then_else_, both, either}
-use Rattle.decimal.proofs.Choices.{tested, not-both}
+use Rattle.decimal.proofs.Choices.{tested, not-both, either-false}
 use Rattle.utf8.specs.Utf8.{isUtf8}
-use Rattle.utf8.proofs.Lower.{either-false}
 use Rattle.utf8.proofs.Scalars.{utf8-sound}
 use Rattle.lexer.specs.Items.{items}
 use Rattle.lexer.specs.Affixes.{anyReserved}

@@ -9,8 +9,7 @@ use borrow.Author.Tests.{eqb-true}
 use lib.Dec.{eqb}
 use lib.ListN.{drop}
 use Rattle.decimal.specs.Choice.{if_then_else_, both}
-use Rattle.decimal.proofs.Choices.{tested, not-both}
-use Rattle.utf8.proofs.Lower.{both-true}
+use Rattle.decimal.proofs.Choices.{tested, not-both, both-true}
 use Rattle.lexer.specs.declared.Item.{Item}
 use Rattle.lexer.specs.declared.Item.the-variants.{Text}
 use Rattle.lexer.specs.declared.Token.{Token}

@@ -12,10 +12,10 @@ use lib.Dec.{eqb}
 use lib.Pow.{pow-add}
 use lib.ListN.{length, getD, take, drop, length-take, length-drop, take-append-drop}
 use Rattle.decimal.specs.Choice.{if_then_else_}
-use Rattle.decimal.specs.Digits.{AllDigits, valueFrom, value, lead, shown, keep, trim}
-use Rattle.decimal.proofs.Runs.{digits-take, digits-drop}
+use Rattle.decimal.specs.Digits.{AllDigits, valueFrom, value, lead, shown, keep, trim, isDigit, isZero}
+use Rattle.decimal.proofs.Runs.{of-take, of-drop, run-le}
 use Rattle.decimal.proofs.Values.{power-pos, value-append, value-from, value-lt}
-use Rattle.decimal.proofs.Zeros.{lead-le, lead-stop, value-shown, trim-front, trim-last}
+use Rattle.decimal.proofs.Zeros.{lead-stop, value-shown, trim-front, trim-last}
 use Rattle.decimal.proofs.Unique.{power-cancel, same-digits, longer-leads, longer-trails}
 use Rattle.layout.specs.Layout.{wholeDigits, kept, fractionDigits}
 use Rattle.print_grammar.specs.Digits.{ShownDigits}
@@ -95,17 +95,17 @@ digits-shown least fraction most d a h hf =
     let n = length d - most in
     let w = take n d in
     let f = drop n d in
-    let aw = digits-take n d a in
-    let af = digits-drop n d a in
+    let aw = of-take isDigit n d a in
+    let af = of-drop isDigit n d a in
     let lw : length w ≡ n = omega (arith, length-take n d) in
     let lf : length f ≡ most = omega (arith, length-drop n d) in
     let m = min (lead w) (length w - least) in
     let j = max fraction (length (trim f)) in
     record {
-      whole-digits = digits-drop m w aw;
-      fraction-digits = digits-take j f af;
+      whole-digits = of-drop isDigit m w aw;
+      fraction-digits = of-take isDigit j f af;
       worth = rw lf at (kept-value least fraction w f) ∙ ap value (take-append-drop n d);
-      whole-least = omega (arith, length-drop m w, lead-le w);
+      whole-least = omega (arith, length-drop m w, run-le isZero w);
       whole-spare = λ k. whole-first least w (omega arith) (omega arith);
       fraction-least = omega (arith, length-take j f);
       fraction-most = omega (arith, length-take j f);

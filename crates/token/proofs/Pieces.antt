@@ -12,25 +12,10 @@ use borrow.Author.Tests.{eq-eqb, ne-eqb, eqb-false, ltb-true, ltb-false}
 use Rattle.decimal.specs.Choice.{if_then_else_}
 use Rattle.decimal.specs.Digits.{isDigit, run}
 use Rattle.decimal.proofs.Choices.{choice, tested, not-both}
-use Rattle.decimal.proofs.Runs.{run-le}
+use Rattle.decimal.proofs.Runs.{run-le, run-some}
 use Rattle.token.specs.Spelling.{starts, lengthOf}
 use Rattle.token.specs.Token.{whites, whiteLen, isWhite, isLetter, letters, dots, differ, tokenLen, pieceLen, Token, tokensFor, tokens}
 use Rattle.token.proofs.Spellings.{starts-le, length-of-le}
-
--- ---- runs of letters
-
-pub letters-more : (s : List ℕ) (i : ℕ) → i < length s → isLetter (getD s i 0) ≡ true → i + letters (drop i s) ≡ (i + 1) + letters (drop (i + 1) s)
-letters-more s i h d = rw (add-one, drop-cons s i 0 h, d) (omega arith)
-
-pub letters-end : (s : List ℕ) (i : ℕ) → i < length s → isLetter (getD s i 0) ≡ false → letters (drop i s) ≡ 0
-letters-end s i h d = rw (drop-cons s i 0 h, d)
-
-pub letters-out : (s : List ℕ) (i : ℕ) → length s ≤ i → letters (drop i s) ≡ 0
-letters-out s i h = rw (drop-of-length-le s h)
-
-letters-le : (s : List ℕ) → letters s ≤ length s
-letters-le [] = omega arith
-letters-le (b ∷ s) = tested (isLetter b) (λ k. rw k (omega (arith, letters-le s))) (λ k. rw k (omega arith))
 
 -- ---- white space by its first byte: one byte, none, or one of the longer spellings
 
@@ -78,18 +63,10 @@ none {A} h = absurd (no h)
     no : 0 < 0 → ⊥
     no k = omega arith
 
-letters-pos : (s : List ℕ) → 0 < length s → isLetter (getD s 0 0) ≡ true → 0 < letters s
-letters-pos [] h e = none h
-letters-pos (b ∷ s) h e = rw e (omega arith)
-
-digits-pos : (s : List ℕ) → 0 < length s → isDigit (getD s 0 0) ≡ true → 0 < run s
-digits-pos [] h e = none h
-digits-pos (b ∷ s) h e = rw e (omega arith)
-
 token-piece : (s : List ℕ) → 0 < length s → (0 < tokenLen s) × (tokenLen s ≤ length s)
 token-piece s h =
-    choice P (isLetter (getD s 0 0)) (λ e. (letters-pos s h e, letters-le s))
-    (λ _. choice P (isDigit (getD s 0 0)) (λ e. (digits-pos s h e, run-le s))
+    choice P (isLetter (getD s 0 0)) (λ e. (run-some isLetter s h e, run-le isLetter s))
+    (λ _. choice P (isDigit (getD s 0 0)) (λ e. (run-some isDigit s h e, run-le isDigit s))
     (λ _. choice P (starts dots s) (λ e. (omega arith, starts-le dots s e))
     (λ _. choice P (starts differ s) (λ e. (omega arith, starts-le differ s e)) (λ _. (omega arith, h)))))
   where

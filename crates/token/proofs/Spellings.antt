@@ -23,9 +23,6 @@ pub both-1 : (a b : Bool) → both a b ≡ true → b ≡ true
 both-1 true b e = e
 both-1 false b e = not-both refl (sym e)
 
-pub both-in : {a b : Bool} → a ≡ true → b ≡ true → both a b ≡ true
-both-in p q = rw (p, q)
-
 -- ---- sameness is equality
 
 pub same-eq : (s t : List ℕ) → same s t ≡ true → s ≡ t

@@ -6,6 +6,7 @@ use Prim.Native.Nat.{ℕ, zero, suc, _+_, _≤_, max}
 use lib.Dec.{ltb, eqb}
 use lib.ListN.{length, getD, take, drop}
 use Rattle.decimal.specs.Choice.{if_then_else_}
+use Rattle.decimal.specs.Lists.{runOf}
 use Rattle.decimal.specs.Digits.{isDigit, run}
 use Rattle.token.specs.Spelling.{starts, lengthOf}
 
@@ -27,8 +28,7 @@ isLetter b = if ltb b 97 then false else ltb b 123
 
 -- how many letters a text begins with
 abbrev pub letters : List ℕ → ℕ
-letters [] = 0
-letters (b ∷ s) = if isLetter b then suc (letters s) else 0
+letters s = runOf isLetter s
 
 abbrev pub dots : List ℕ
 dots = 46 ∷ 46 ∷ []

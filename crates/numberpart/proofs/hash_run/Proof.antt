@@ -3,8 +3,9 @@ use native.Mathlib.Omega.{arith}
 use mathlib.Core.Path.{_≡_}
 use Prim.Native.Nat.{_≤_, _-_, _+_}
 use lib.ListN.{length, drop}
-use Rattle.numberpart.specs.Shape.{hashes}
-use Rattle.numberpart.proofs.Scans.{hashes-more, hashes-end, hashes-out}
+use borrow.Author.Tests.{eq-eqb, ne-eqb}
+use Rattle.decimal.proofs.Runs.{run-more, run-end, run-out}
+use Rattle.numberpart.specs.Shape.{isHash, hashes}
 use borrow.Author.Needs.{needs}
 use Rattle.numberpart.proofs.hash_run.Statement.{statement}
 use Rattle.numberpart.proofs.hash_run.Tie as tie
@@ -29,13 +30,13 @@ loop-less c = search needs
 
 loop-again : tie.Need-loop-again Inv-loop μ-loop
 loop-again c =
-    (omega arith, omega (arith, c .before .before .before .loop .inv .1, hashes-more (c .before .before .before .before .args .s .now) (c .before .before .before .loop .i) (c .before .before .loop-test .taken) (c .if1 .taken)))
+    (omega arith, omega (arith, c .before .before .before .loop .inv .1, run-more isHash (c .before .before .before .before .args .s .now) (c .before .before .before .loop .i) (c .before .before .loop-test .taken) (eq-eqb _ 35 (c .if1 .taken))))
 
 returns : tie.Need-returns Inv-loop μ-loop
-returns c = (omega (arith, c .before .before .before .loop .inv .1, hashes-end (c .before .before .before .before .args .s .now) (c .before .before .before .loop .i) (c .before .before .loop-test .taken) (c .if1 .left)), search needs)
+returns c = (omega (arith, c .before .before .before .loop .inv .1, run-end isHash (c .before .before .before .before .args .s .now) (c .before .before .before .loop .i) (c .before .before .loop-test .taken) (ne-eqb _ 35 (c .if1 .left))), search needs)
 
 returns-2 : tie.Need-returns-2 Inv-loop μ-loop
-returns-2 c = (omega (arith, c .before .loop .inv .1, hashes-out (c .before .before .args .s .now) (c .before .loop .i) (c .loop-test .left)), search needs)
+returns-2 c = (omega (arith, c .before .loop .inv .1, run-out isHash (c .before .before .args .s .now) (c .before .loop .i) (c .loop-test .left)), search needs)
 
 pub hash-run-spec : {M : Type 1} → statement M
 hash-run-spec =

@@ -5,8 +5,8 @@ use borrow.Author.Needs.{needs}
 use Rattle.numberpart.proofs.number_fits.Statement.{statement}
 use Rattle.numberpart.proofs.number_fits.Tie as tie
 
-find-byte-requires : tie.Need-find-byte-requires
-find-byte-requires c κs = search needs
+run-until-requires : tie.Need-run-until-requires
+run-until-requires c κs = search needs
 
 count-in-requires : tie.Need-count-in-requires
 count-in-requires c κs = search needs
@@ -28,13 +28,13 @@ fraction-fits-requires c κs = search needs
 
 returns : tie.Need-returns
 returns c =
-    let f = rw (c .before .before .before .before .upto .ensures, c .before .before .before .before .before .before .before .find-byte .ensures .0) at (c .before .before .before .whole-fits .ensures) in
+    let f = rw (c .before .before .before .before .upto .ensures, c .before .before .before .before .before .before .before .run-until .ensures .0) at (c .before .before .before .whole-fits .ensures) in
     rw (lt-ltb _ _ (rw (c .before .before .before .before .before .before .count-in .ensures .0) at (c .before .before .before .before .before .if1 .taken)), sym f ∙ c .before .before .if2 .taken)
-    (rw (c .before .after .ensures, c .before .before .before .before .before .before .before .find-byte .ensures .0) at (c .fraction-fits .ensures))
+    (rw (c .before .after .ensures, c .before .before .before .before .before .before .before .run-until .ensures .0) at (c .fraction-fits .ensures))
 
 returns-2 : tie.Need-returns-2
 returns-2 c =
-    let f = rw (c .before .before .upto .ensures, c .before .before .before .before .before .find-byte .ensures .0) at (c .before .whole-fits .ensures) in
+    let f = rw (c .before .before .upto .ensures, c .before .before .before .before .before .run-until .ensures .0) at (c .before .whole-fits .ensures) in
     rw (lt-ltb _ _ (rw (c .before .before .before .before .count-in .ensures .0) at (c .before .before .before .if1 .taken)), sym f ∙ c .if2 .left)
 
 returns-3 : tie.Need-returns-3
@@ -44,7 +44,7 @@ pub number-fits-spec : {M : Type 1} → statement M
 number-fits-spec =
     tie.close
     (tie.spec
-    find-byte-requires
+    run-until-requires
     count-in-requires
     upto-requires
     whole-fits-requires

@@ -3,8 +3,8 @@ use borrow.Author.Needs.{needs}
 use Rattle.numberpart.proofs.read_part.Statement.{statement}
 use Rattle.numberpart.proofs.read_part.Tie as tie
 
-find-byte-requires : tie.Need-find-byte-requires
-find-byte-requires c κs = search needs
+run-until-requires : tie.Need-run-until-requires
+run-until-requires c κs = search needs
 
 upto-requires : tie.Need-upto-requires
 upto-requires c κs = search needs
@@ -51,14 +51,14 @@ returns c =
       c .step-of .ensures,
       c .before .before .before .before .before .before .before .before .upto .ensures,
       c .before .before .before .before .before .before .before .after .ensures,
-      c .before .before .before .before .before .before .before .before .before .find-byte .ensures .0,
+      c .before .before .before .before .before .before .before .before .before .run-until .ensures .0,
     )
 
 pub read-part-spec : {M : Type 1} → statement M
 read-part-spec =
     tie.close
     (tie.spec
-    find-byte-requires
+    run-until-requires
     upto-requires
     add-after
     after-requires

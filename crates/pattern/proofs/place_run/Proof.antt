@@ -3,8 +3,9 @@ use native.Mathlib.Omega.{arith}
 use mathlib.Core.Path.{_≡_, sym, _∙_}
 use Prim.Native.Nat.{_≤_, _-_, _+_}
 use lib.ListN.{length, drop}
+use Rattle.decimal.proofs.Runs.{run-more, run-end, run-out}
+use Rattle.lexer.specs.Items.{isPlace}
 use Rattle.pattern.specs.Reading.{places}
-use Rattle.pattern.proofs.Halves.{places-more, places-end, places-out}
 use borrow.Author.Needs.{needs}
 use Rattle.pattern.proofs.place_run.Statement.{statement}
 use Rattle.pattern.proofs.place_run.Tie as tie
@@ -32,14 +33,14 @@ loop-less c = search needs
 
 loop-again : tie.Need-loop-again Inv-loop μ-loop
 loop-again c =
-    (omega arith, omega (arith, c .before .before .before .before .loop .inv .1, places-more (c .before .before .before .before .before .before .args .s .now) (c .before .before .before .before .loop .i) (c .before .before .before .loop-test .taken) (sym (c .before .is-place .ensures) ∙ c .if1 .taken)))
+    (omega arith, omega (arith, c .before .before .before .before .loop .inv .1, run-more isPlace (c .before .before .before .before .before .before .args .s .now) (c .before .before .before .before .loop .i) (c .before .before .before .loop-test .taken) (sym (c .before .is-place .ensures) ∙ c .if1 .taken)))
 
 returns : tie.Need-returns Inv-loop μ-loop
 returns c =
-    (omega (arith, c .before .before .before .before .loop .inv .1, places-end (c .before .before .before .before .before .before .args .s .now) (c .before .before .before .before .loop .i) (c .before .before .before .loop-test .taken) (sym (c .before .is-place .ensures) ∙ c .if1 .left)), search needs)
+    (omega (arith, c .before .before .before .before .loop .inv .1, run-end isPlace (c .before .before .before .before .before .before .args .s .now) (c .before .before .before .before .loop .i) (c .before .before .before .loop-test .taken) (sym (c .before .is-place .ensures) ∙ c .if1 .left)), search needs)
 
 returns-2 : tie.Need-returns-2 Inv-loop μ-loop
-returns-2 c = (omega (arith, c .before .loop .inv .1, places-out (c .before .before .before .args .s .now) (c .before .loop .i) (c .loop-test .left)), search needs)
+returns-2 c = (omega (arith, c .before .loop .inv .1, run-out isPlace (c .before .before .before .args .s .now) (c .before .loop .i) (c .loop-test .left)), search needs)
 
 pub place-run-spec : {M : Type 1} → statement M
 place-run-spec =

@@ -3,8 +3,8 @@ use native.Mathlib.Omega.{arith}
 use mathlib.Core.Path.{_≡_, sym, _∙_}
 use Prim.Native.Nat.{_≤_, _+_, _-_}
 use lib.ListN.{length, drop}
-use Rattle.token.specs.Token.{letters}
-use Rattle.token.proofs.Pieces.{letters-more, letters-end, letters-out}
+use Rattle.decimal.proofs.Runs.{run-more, run-end, run-out}
+use Rattle.token.specs.Token.{isLetter, letters}
 use borrow.Author.Needs.{needs}
 use Rattle.token.proofs.letter_run.Statement.{statement}
 use Rattle.token.proofs.letter_run.Tie as tie
@@ -34,16 +34,16 @@ loop-again : tie.Need-loop-again Inv-loop μ-loop
 loop-again c =
     let l = c .before .before .before .before in
     let s = l .before .before .args .s .now in
-    omega (arith, letters-more s (l .loop .i) (c .before .before .before .loop-test .taken) (sym (c .before .is-letter .ensures) ∙ c .if1 .taken))
+    omega (arith, run-more isLetter s (l .loop .i) (c .before .before .before .loop-test .taken) (sym (c .before .is-letter .ensures) ∙ c .if1 .taken))
 
 returns : tie.Need-returns Inv-loop μ-loop
 returns c =
     let l = c .before .before .before .before in
     let s = l .before .before .args .s .now in
-    omega (arith, letters-end s (l .loop .i) (c .before .before .before .loop-test .taken) (sym (c .before .is-letter .ensures) ∙ c .if1 .left))
+    omega (arith, run-end isLetter s (l .loop .i) (c .before .before .before .loop-test .taken) (sym (c .before .is-letter .ensures) ∙ c .if1 .left))
 
 returns-2 : tie.Need-returns-2 Inv-loop μ-loop
-returns-2 c = omega (arith, letters-out (c .before .before .before .args .s .now) (c .before .loop .i) (c .loop-test .left))
+returns-2 c = omega (arith, run-out isLetter (c .before .before .before .args .s .now) (c .before .loop .i) (c .loop-test .left))
 
 pub letter-run-spec : {M : Type 1} → statement M
 letter-run-spec =
