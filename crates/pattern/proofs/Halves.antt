@@ -10,7 +10,7 @@ use lib.ListN.{length, getD, drop, drop-of-length-le}
 use lib.Seq.{drop-cons}
 use Rattle.decimal.specs.Choice.{either}
 use Rattle.decimal.proofs.Choices.{tested, not-both, ltb-same}
-use Rattle.lexer.specs.Items.{isPlace}
+use Rattle.pattern_token.specs.Items.{isPlace}
 use Rattle.numberpart.specs.Shape.{stepCap}
 use Rattle.pattern.specs.Limits.{maxStep}
 use Rattle.answer.specs.declared.PatternRow.the-variants.{NotAPattern}

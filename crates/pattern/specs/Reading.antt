@@ -7,11 +7,11 @@ use lib.ListN.{length, getD, take, drop}
 use Rattle.decimal.specs.Lists.{runOf}
 use Rattle.decimal.specs.Choice.{if_then_else_, both, either}
 use Rattle.utf8.specs.Utf8.{isUtf8}
-use Rattle.lexer.specs.declared.Affix.{Affix}
-use Rattle.lexer.specs.declared.Mark.{Mark}
-use Rattle.lexer.specs.declared.Mark.the-variants.{Percent, Permille}
-use Rattle.lexer.specs.Items.{isPlace, items}
-use Rattle.lexer.specs.Affixes.{affix, anyReserved, marks}
+use Rattle.pattern_affix.specs.declared.Affix.{Affix}
+use Rattle.pattern_token.specs.declared.Mark.{Mark}
+use Rattle.pattern_token.specs.declared.Mark.the-variants.{Percent, Permille}
+use Rattle.pattern_token.specs.Items.{isPlace, items}
+use Rattle.pattern_affix.specs.Affixes.{affix, anyReserved, marks}
 use Rattle.numberpart.specs.Shape.{shapeOf, capped}
 use Rattle.answer.specs.declared.PatternRow.{PatternRow}
 use Rattle.answer.specs.declared.PatternRow.the-variants.{PatternTooLong, PatternNotUtf8, ReservedByte, NotAPattern, TooManyPlaces, StepTooLarge, PercentMismatch}

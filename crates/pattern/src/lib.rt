@@ -11,8 +11,8 @@ ghost use Rattle.pattern.specs.Reading.{places, marksOf, halfOf, endOf, 
 use answer::PatternRow;
 use answer::Refusal;
 use decimal::cut;
-use lexer::Mark;
 use numberpart::Shape;
+use pattern_token::Mark;
 
 const MAX_BYTES: usize = 256;
 
@@ -81,7 +81,7 @@ fn place_run(s: &[u8]) -> usize
 {
     let mut i = 0;
     while i < s.len() {
-        if lexer::is_place(s[i]) {
+        if pattern_token::is_place(s[i]) {
             i += 1;
         } else {
             return i;
@@ -95,12 +95,12 @@ fn read_half(s: &[u8]) -> Half
     ensures { λ r. ⌜ r ≡ cappedHalf (halfOf (now (s .entry))) ⌝ }
     ensures { λ r. ⌜ r .prefix + r .number + r .suffix ≤ length (now (s .entry)) ⌝ }
 {
-    let a = lexer::affix_of(s);
+    let a = pattern_affix::affix_of(s);
     let p = a.len;
     let rest = cut::after(s, p);
     let n = place_run(rest);
     let behind = cut::after(s, p + n);
-    let x = lexer::affix_of(behind);
+    let x = pattern_affix::affix_of(behind);
     let prefix = cut::upto(s, p);
     let suffix = cut::upto(behind, x.len);
     let shape = numberpart::read_part(cut::upto(rest, n));
@@ -110,10 +110,10 @@ fn read_half(s: &[u8]) -> Half
         suffix: x.len,
         closed: x.closed,
         shape: shape,
-        percents: lexer::count_marks(Mark::Percent, prefix)
-            + lexer::count_marks(Mark::Percent, suffix),
-        permilles: lexer::count_marks(Mark::Permille, prefix)
-            + lexer::count_marks(Mark::Permille, suffix),
+        percents: pattern_affix::count_marks(Mark::Percent, prefix)
+            + pattern_affix::count_marks(Mark::Percent, suffix),
+        permilles: pattern_affix::count_marks(Mark::Permille, prefix)
+            + pattern_affix::count_marks(Mark::Permille, suffix),
     }
 }
 
@@ -290,7 +290,7 @@ pub fn read_pattern(s: &[u8]) -> PatternReading
         return refuse(PatternRow::PatternTooLong);
     }
     if utf8::is_utf8(s) {
-        if lexer::has_reserved(s) {
+        if pattern_affix::has_reserved(s) {
             return refuse(PatternRow::ReservedByte);
         }
         return read_halves(s);

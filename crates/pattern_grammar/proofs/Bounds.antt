@@ -11,7 +11,7 @@ use lib.ListN.{length, getD, take}
 use lib.Seq.{getD-take, length-take-le}
 use Rattle.decimal.specs.Digits.{value}
 use Rattle.decimal.proofs.Choices.{choice, tested}
-use Rattle.lexer.specs.Items.{permille as permilleMark}
+use Rattle.pattern_token.specs.Items.{permille as permilleMark}
 use Rattle.numberpart.specs.Shape.{between, count, digits, last, primaryOf, front, secondaryOf}
 use Rattle.pattern.specs.Limits.{maxWhole, maxFraction, maxStep}
 use Rattle.pattern.specs.declared.Negative.{Negative}

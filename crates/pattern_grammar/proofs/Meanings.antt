@@ -10,11 +10,11 @@ use lib.Dec.{eqb, ltb}
 use lib.ListN.{length}
 use Rattle.decimal.specs.Choice.{both, either}
 use Rattle.decimal.proofs.Choices.{tested, not-both, both-true}
-use Rattle.lexer.specs.declared.Affix.{Affix}
-use Rattle.lexer.specs.declared.Mark.{Mark}
-use Rattle.lexer.specs.declared.Mark.the-variants.{Percent, Permille}
-use Rattle.lexer.specs.Items.{permille as permilleMark, items}
-use Rattle.lexer.specs.Affixes.{marks}
+use Rattle.pattern_affix.specs.declared.Affix.{Affix}
+use Rattle.pattern_token.specs.declared.Mark.{Mark}
+use Rattle.pattern_token.specs.declared.Mark.the-variants.{Percent, Permille}
+use Rattle.pattern_token.specs.Items.{permille as permilleMark, items}
+use Rattle.pattern_affix.specs.Affixes.{marks}
 use Rattle.numberpart.specs.Shape.{wholeOf, fractionOf, count, digits, primaryOf, secondaryOf, stepOf}
 use Rattle.pattern.specs.Limits.{maxWhole, maxFraction, maxStep}
 use Rattle.pattern.specs.declared.Half.{Half}

@@ -13,9 +13,9 @@ use Rattle.decimal.specs.Choice.{if_then_else_, both}
 use Rattle.decimal.specs.Digits.{isDigit, AllDigits}
 use Rattle.decimal.proofs.Choices.{tested, not-both, both-true}
 use Rattle.decimal.proofs.Runs.{of-head}
-use Rattle.lexer.specs.declared.Affix.{Affix}
-use Rattle.lexer.specs.Items.{isPlace, tokenAt, quotedAfter, isNumber}
-use Rattle.lexer.specs.Affixes.{endsAffix, affixFrom, affix}
+use Rattle.pattern_affix.specs.declared.Affix.{Affix}
+use Rattle.pattern_token.specs.Items.{isPlace, tokenAt, quotedAfter, isNumber}
+use Rattle.pattern_affix.specs.Affixes.{endsAffix, affixFrom, affix}
 use Rattle.numberpart.specs.Shape.{digits, misplaced, seenAfter, ordered, numberFits, isHash}
 use Rattle.pattern.specs.Reading.{places, prefixLen, numberLen, behind, suffixAffix, prefixOf, numberOf, suffixOf, halfOf, endOf, fits}
 use Rattle.pattern_grammar.specs.NumberPart.{AllHashes, IsFraction, Sides, unpointed, pointed, IsPart}

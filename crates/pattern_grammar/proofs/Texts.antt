@@ -11,7 +11,7 @@ use lib.ListN.{length, take, drop}
 use lib.Seq.{take-at, take-length, drop-at, drop-drop}
 use Rattle.decimal.specs.Choice.{if_then_else_}
 use Rattle.decimal.proofs.Choices.{tested}
-use Rattle.lexer.specs.Items.{permille as permilleMark}
+use Rattle.pattern_token.specs.Items.{permille as permilleMark}
 use Rattle.pattern.specs.declared.Negative.{Negative}
 use Rattle.pattern.specs.declared.Negative.the-variants.{MinusSymbol}
 use Rattle.pattern.specs.declared.Pattern.{Pattern}

@@ -11,8 +11,8 @@ use Rattle.decimal.specs.Choice.{if_then_else_, both, either}
 use Rattle.decimal.proofs.Choices.{tested, not-both, either-false}
 use Rattle.utf8.specs.Utf8.{isUtf8}
 use Rattle.utf8.proofs.Scalars.{utf8-sound}
-use Rattle.lexer.specs.Items.{items}
-use Rattle.lexer.specs.Affixes.{anyReserved}
+use Rattle.pattern_token.specs.Items.{items}
+use Rattle.pattern_affix.specs.Affixes.{anyReserved}
 use Rattle.answer.specs.declared.PatternRow.{PatternRow}
 use Rattle.answer.specs.declared.PatternRow.the-variants.{NotAPattern, TooManyPlaces, StepTooLarge, PercentMismatch}
 use Rattle.pattern.specs.Limits.{maxBytes}

@@ -8,7 +8,7 @@ use lib.Dec.{eqb}
 use lib.ListN.{length}
 use Rattle.decimal.specs.Choice.{if_then_else_}
 use Rattle.decimal.specs.Digits.{value}
-use Rattle.lexer.specs.Items.{starts, permille as permilleMark}
+use Rattle.pattern_token.specs.Items.{starts, permille as permilleMark}
 use Rattle.numberpart.specs.Shape.{digits, primaryOf, secondaryOf}
 use Rattle.pattern.specs.Limits.{maxWhole, maxFraction, maxStep}
 use Rattle.pattern.specs.Reading.{span}

@@ -4,7 +4,7 @@ use mathlib.Core.List.{List}
 use mathlib.Core.Logic.{_↔_}
 use Prim.Native.Nat.{ℕ}
 use lib.ListN.{length, take, drop}
-use Rattle.lexer.specs.Items.{permille as permilleMark}
+use Rattle.pattern_token.specs.Items.{permille as permilleMark}
 use Rattle.numberpart.specs.Shape.{digits}
 use Rattle.pattern.specs.declared.Span.{Span}
 use Rattle.pattern.specs.declared.Negative.{Negative}

@@ -11,9 +11,9 @@ use Rattle.decimal.specs.Choice.{if_then_else_}
 use Rattle.decimal.specs.Digits.{lead, trim}
 use Rattle.decimal.proofs.Choices.{tested, choice, not-both}
 use Rattle.utf8.specs.Utf8.{charBytes, restFits, charLen, isChar}
-use Rattle.lexer.specs.declared.Item.{Item}
-use Rattle.lexer.specs.declared.Item.the-variants.{Text, Symbol as SymbolItem, Place, Quote, Semicolon, Reserved}
-use Rattle.lexer.specs.Items.{tokenAt, quotedAfter, isNumber, itemsFrom, items}
+use Rattle.pattern_token.specs.declared.Item.{Item}
+use Rattle.pattern_token.specs.declared.Item.the-variants.{Text, Symbol as SymbolItem, Place, Quote, Semicolon, Reserved}
+use Rattle.pattern_token.specs.Items.{tokenAt, quotedAfter, isNumber, itemsFrom, items}
 use Rattle.symbols.specs.declared.Symbol.{Symbol}
 use Rattle.symbols.specs.declared.Symbol.the-variants.{Decimal, Group, Minus}
 use Rattle.symbols.specs.Entries.{bodyFits}

@@ -10,11 +10,11 @@ use lib.Dec.{eqb}
 use lib.ListN.{drop}
 use Rattle.decimal.specs.Choice.{if_then_else_, both}
 use Rattle.decimal.proofs.Choices.{tested, not-both, both-true}
-use Rattle.lexer.specs.declared.Item.{Item}
-use Rattle.lexer.specs.declared.Item.the-variants.{Text}
-use Rattle.lexer.specs.declared.Token.{Token}
-use Rattle.lexer.specs.Items.{starts, permille, currency, isReserved, token, tokenAt, quotedAfter, isNumber, itemsFrom, items}
-use Rattle.lexer.specs.Affixes.{reserves, anyReserved}
+use Rattle.pattern_token.specs.declared.Item.{Item}
+use Rattle.pattern_token.specs.declared.Item.the-variants.{Text}
+use Rattle.pattern_token.specs.declared.Token.{Token}
+use Rattle.pattern_token.specs.Items.{starts, permille, currency, isReserved, token, tokenAt, quotedAfter, isNumber, itemsFrom, items}
+use Rattle.pattern_affix.specs.Affixes.{reserves, anyReserved}
 use Rattle.symbols.specs.declared.Symbol.{Symbol}
 use Rattle.pattern_grammar.specs.Grammar.{isBare, IsAffix, done as no-more, apostrophe as pair, quote as mark, literal as inside, bare}
 use Rattle.pattern_grammar.proofs.Affixes.{bare-parts, single}

@@ -10,13 +10,13 @@ use lib.ListN.{length, getD, drop}
 use lib.Seq.{drop-at}
 use Rattle.decimal.specs.Choice.{if_then_else_, both, either}
 use Rattle.decimal.proofs.Choices.{choices, tested, not-both, never}
-use Rattle.lexer.specs.declared.Item.{Item}
-use Rattle.lexer.specs.declared.Item.the-variants.{Place}
-use Rattle.lexer.specs.declared.Token.{Token}
-use Rattle.lexer.specs.declared.Affix.{Affix}
-use Rattle.lexer.specs.Items.{starts, apostrophe, permille, currency, isPlace, isReserved, bareOf, token, tokenAt, quotedAfter, isNumber, itemsFrom, items}
-use Rattle.lexer.specs.Affixes.{reserves, anyReserved, endsAffix, affixFrom, affix}
-use Rattle.lexer.proofs.ItemLaws.{token-fits}
+use Rattle.pattern_token.specs.declared.Item.{Item}
+use Rattle.pattern_token.specs.declared.Item.the-variants.{Place}
+use Rattle.pattern_token.specs.declared.Token.{Token}
+use Rattle.pattern_affix.specs.declared.Affix.{Affix}
+use Rattle.pattern_token.specs.Items.{starts, apostrophe, permille, currency, isPlace, isReserved, bareOf, token, tokenAt, quotedAfter, isNumber, itemsFrom, items}
+use Rattle.pattern_affix.specs.Affixes.{reserves, anyReserved, endsAffix, affixFrom, affix}
+use Rattle.pattern_token.proofs.ItemLaws.{token-fits}
 use Rattle.pattern.specs.declared.Span.{Span}
 use Rattle.pattern.specs.declared.Negative.{Negative}
 use Rattle.pattern.specs.declared.Negative.the-variants.{Own}

@@ -3,8 +3,8 @@ use mathlib.Core.Path.{_≡_}
 use mathlib.Core.Bool.{false}
 use mathlib.Core.List.{List}
 use Prim.Native.Nat.{ℕ}
-use Rattle.lexer.specs.Items.{items}
-use Rattle.lexer.specs.Affixes.{anyReserved}
+use Rattle.pattern_token.specs.Items.{items}
+use Rattle.pattern_affix.specs.Affixes.{anyReserved}
 use Rattle.pattern.specs.declared.Span.{Span}
 use Rattle.pattern.specs.declared.Negative.the-variants.{Own}
 use Rattle.pattern.specs.declared.Pattern.{Pattern}

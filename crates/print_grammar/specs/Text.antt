@@ -7,7 +7,7 @@ use lib.Dec.{eqb, ltb}
 use lib.ListN.{length}
 use Rattle.decimal.specs.Choice.{if_then_else_, both}
 use Rattle.decimal.specs.Digits.{begins}
-use Rattle.lexer.specs.Items.{starts, permille}
+use Rattle.pattern_token.specs.Items.{starts, permille}
 use Rattle.symbols.specs.declared.Symbol.{Symbol}
 use Rattle.symbols.specs.declared.Symbol.the-variants.{Decimal, Group, Minus, Plus, Percent, Permille}
 use Rattle.number.specs.declared.Number.{Number}

@@ -4,7 +4,7 @@ use mathlib.Core.Path.{_≡_, sym, _∙_}
 use Prim.Native.Nat.{_≤_, _-_, _+_}
 use lib.ListN.{length, drop}
 use Rattle.decimal.proofs.Runs.{run-more, run-end, run-out}
-use Rattle.lexer.specs.Items.{isPlace}
+use Rattle.pattern_token.specs.Items.{isPlace}
 use Rattle.pattern.specs.Reading.{places}
 use borrow.Author.Needs.{needs}
 use Rattle.pattern.proofs.place_run.Statement.{statement}

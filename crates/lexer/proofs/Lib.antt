@@ -1,2 +1,0 @@
-pub mod ItemLaws
-pub mod Firsts
