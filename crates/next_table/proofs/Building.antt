@@ -15,11 +15,11 @@ use Rattle.decimal.proofs.Choices.{never}
 use Rattle.decimal.proofs.Values.{power-pos, power-mono}
 use Rattle.rules.specs.Syntax.{Relation}
 use Rattle.rules.proofs.Stretches.{stretch-same}
-use Rattle.least.specs.Segments.{Segment, Level}
-use Rattle.least.proofs.Seeking.{split, and-false-right}
-use Rattle.clash_laws.specs.Levels.{own, below}
-use Rattle.clash_laws.specs.declared.Query.{Query}
-use Rattle.clash_laws.proofs.Levelled.{below-mod}
+use Rattle.check_laws.specs.Segments.{Segment, Level}
+use Rattle.check_laws.proofs.Seeking.{split, and-false-right}
+use Rattle.check_laws.specs.Levels.{own, below}
+use Rattle.check_laws.specs.declared.Query.{Query}
+use Rattle.check_laws.proofs.Levelled.{below-mod}
 use Rattle.next_table.specs.Table.{room, segmentsIn, levelAt, Small, Laid, Stands, Tabled}
 use Rattle.next_table.specs.Building.{Opens, Covers, BuiltAs}
 use Rattle.next_table.specs.declared.Built.{Built}

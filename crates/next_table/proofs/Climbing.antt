@@ -10,7 +10,7 @@ use borrow.Author.Tests.{le-leb, lt-leb, leb-true, lt-ltb, le-ltb}
 use Rattle.decimal.proofs.Choices.{choice}
 use Rattle.rules.specs.Stretch.{stretch}
 use Rattle.rules.proofs.Stretches.{stretch-cons, stretch-nil}
-use Rattle.least.specs.Segments.{Segment, segment, first, upTo, wrap, climb}
+use Rattle.check_laws.specs.Segments.{Segment, segment, first, upTo, wrap, climb}
 use Rattle.next_table.specs.Table.{segmentAt, segmentsIn, Small, climbIn}
 
 module _ (starts ends : List ℕ) where

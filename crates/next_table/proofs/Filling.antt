@@ -11,10 +11,10 @@ use lib.ListN.{length, set}
 use lib.Seq.{getD-set-same, getD-set-other}
 use Rattle.decimal.specs.Choice.{both, either}
 use Rattle.rules.proofs.Stretches.{stretch-cons, stretch-nil, stretch-snoc, stretch-same}
-use Rattle.least.specs.Segments.{Segment, segment, within, inside, Rising, Starts, first, Level}
-use Rattle.least.proofs.Seeking.{split}
-use Rattle.least.proofs.Segmented.{before, behind, between, rising-end, rising-up}
-use Rattle.clash_laws.proofs.Searched.{both-held}
+use Rattle.check_laws.specs.Segments.{Segment, segment, within, inside, Rising, Starts, first, Level}
+use Rattle.check_laws.proofs.Seeking.{split}
+use Rattle.check_laws.proofs.Segmented.{before, behind, between, rising-end, rising-up}
+use Rattle.check_laws.proofs.Searched.{both-held}
 use Rattle.next_table.specs.Table.{segmentAt, segmentsIn}
 use Rattle.next_table.specs.Building.{Opens, Covers}
 

@@ -5,12 +5,12 @@ use mathlib.Core.Logic.{⊎-elim}
 use Prim.Native.Nat.{ℕ, zero, suc, _≤_, _<_, min}
 use native.Mathlib.Omega.{arith}
 use Rattle.decimal.specs.Choice.{both}
-use Rattle.least.specs.Seek.{Next, Alike}
-use Rattle.least.proofs.Seeking.{split, and-false-left, and-false-right, and-true}
+use Rattle.check_laws.specs.Seek.{Next, Alike}
+use Rattle.check_laws.proofs.Seeking.{split, and-false-left, and-false-right, and-true}
 use lib.ListN.{getD, replicate}
 use Rattle.rules.specs.Stretch.{Table}
-use Rattle.clash_laws.specs.declared.Query.{Query}
-use Rattle.clash_laws.specs.declared.Span.{Span}
+use Rattle.check_laws.specs.declared.Query.{Query}
+use Rattle.check_laws.specs.declared.Span.{Span}
 use Rattle.runs.specs.Kept.{Kept}
 use Rattle.runs.proofs.Keeping.{kept-none}
 use Rattle.next_table.specs.Building.{Looked, Opens}

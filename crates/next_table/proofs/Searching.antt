@@ -10,17 +10,17 @@ use Rattle.decimal.specs.Choice.{both}
 use Rattle.rules.specs.Syntax.{Relation}
 use Rattle.rules.specs.Stretch.{Table}
 use Rattle.plural.specs.Meaning.{all}
-use Rattle.least.specs.Seek.{Least}
-use Rattle.least.proofs.Seeking.{split, least-start, least-none, least-after, and-false-left, and-false-right}
-use Rattle.least.proofs.Segmented.{least-same}
-use Rattle.clash_laws.specs.Fast.{passes, ends, passesAll}
-use Rattle.clash_laws.specs.Levels.{levels, window, own, below, levelled}
-use Rattle.clash_laws.specs.Read.{joinedIn}
-use Rattle.clash_laws.specs.Ready.{ready, leastIn}
-use Rattle.clash_laws.specs.declared.Query.{Query}
-use Rattle.clash_laws.specs.declared.Span.{Span}
-use Rattle.clash_laws.proofs.Levelled.{levelled-split}
-use Rattle.clash_laws.proofs.Searched.{least-search}
+use Rattle.check_laws.specs.Seek.{Least}
+use Rattle.check_laws.proofs.Seeking.{split, least-start, least-none, least-after, and-false-left, and-false-right}
+use Rattle.check_laws.proofs.Segmented.{least-same}
+use Rattle.check_laws.specs.Fast.{passes, ends, passesAll}
+use Rattle.check_laws.specs.Levels.{levels, window, own, below, levelled}
+use Rattle.check_laws.specs.Read.{joinedIn}
+use Rattle.check_laws.specs.Ready.{ready, leastIn}
+use Rattle.check_laws.specs.declared.Query.{Query}
+use Rattle.check_laws.specs.declared.Span.{Span}
+use Rattle.check_laws.proofs.Levelled.{levelled-split}
+use Rattle.check_laws.proofs.Searched.{least-search}
 use Rattle.next_table.specs.Table.{room, Laid}
 use Rattle.next_table.specs.Building.{Opens}
 use Rattle.next_table.proofs.Finding.{zeros}

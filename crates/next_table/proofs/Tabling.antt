@@ -10,9 +10,9 @@ use native.Mathlib.Numerals.{add-one}
 use lib.ListN.{getD}
 use borrow.Author.Tests.{le-leb, lt-leb}
 use Rattle.decimal.proofs.Values.{power-pos, power-mono}
-use Rattle.least.specs.Seek.{Next}
-use Rattle.least.proofs.Seeking.{split}
-use Rattle.least.proofs.Segmented.{level-next, next-same}
+use Rattle.check_laws.specs.Seek.{Next}
+use Rattle.check_laws.proofs.Seeking.{split}
+use Rattle.check_laws.proofs.Segmented.{level-next, next-same}
 use Rattle.next_table.specs.Table.{room, Laid, Stands, Tabled, levelAt, climbIn}
 use Rattle.next_table.proofs.Climbing.{climbIn-small}
 

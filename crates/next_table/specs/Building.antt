@@ -4,8 +4,8 @@ use mathlib.Core.Bool.{Bool, true, false}
 use mathlib.Core.List.{List}
 use Prim.Native.Nat.{ℕ, _≤_, _<_}
 use Rattle.decimal.specs.Choice.{both}
-use Rattle.least.specs.Seek.{Least}
-use Rattle.least.specs.Segments.{Segment, Rising, Starts, inside}
+use Rattle.check_laws.specs.Seek.{Least}
+use Rattle.check_laws.specs.Segments.{Segment, Rising, Starts, inside}
 use Rattle.next_table.specs.Table.{Laid, Tabled}
 use Rattle.next_table.specs.declared.Built.{Built}
 use Rattle.next_table.specs.declared.Built.the-variants.{Stands, Empty}

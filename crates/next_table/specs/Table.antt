@@ -8,7 +8,7 @@ use lib.Dec.{leb}
 use lib.ListN.{length, getD}
 use Rattle.decimal.specs.Choice.{if_then_else_}
 use Rattle.rules.specs.Stretch.{stretch}
-use Rattle.least.specs.Segments.{Segment, segment, climb, Level}
+use Rattle.check_laws.specs.Segments.{Segment, segment, climb, Level}
 
 -- how many segments there is room for
 abbrev pub room : ℕ

@@ -1,8 +1,8 @@
 // The next number of one level of the table.
 ghost use mathlib.Core.Path.{_≡_};
 ghost use Prim.Native.Nat.{_-_, _≤_, _<_};
-ghost use Rattle.least.specs.Segments.{first, upTo, wrap, climb};
-ghost use Rattle.clash_laws.specs.Read.{cap};
+ghost use Rattle.check_laws.specs.Segments.{first, upTo, wrap, climb};
+ghost use Rattle.check_laws.specs.Read.{cap};
 ghost use Rattle.next_table.specs.Table.{Small, segmentsIn, climbIn};
 ghost use lib.ListN.{getD};
 use decimal::num::less_by;

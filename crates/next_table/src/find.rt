@@ -2,16 +2,16 @@
 ghost use mathlib.Core.Path.{_≡_};
 ghost use Prim.Native.Nat.{_≤_, _<_, min};
 ghost use Rattle.rules.specs.Stretch.{table};
-ghost use Rattle.clash_laws.specs.Levels.{own, below};
-ghost use Rattle.clash_laws.specs.Read.{joinedIn};
-ghost use Rattle.clash_laws.specs.Ready.{Fit, Room};
+ghost use Rattle.check_laws.specs.Levels.{own, below};
+ghost use Rattle.check_laws.specs.Read.{joinedIn};
+ghost use Rattle.check_laws.specs.Ready.{Fit, Room};
 ghost use Rattle.runs.specs.Kept.{sizeOf, Kept, Listed};
 ghost use Rattle.next_table.specs.Table.{Laid, Tabled};
 ghost use Rattle.next_table.specs.Building.{Looked, Opens};
 use crate::Found;
 use crate::next;
-use clash_laws::Query;
-use clash_laws::Span;
+use check_laws::Query;
+use check_laws::Span;
 use decimal::num::lesser;
 use runs::clause::clause_run;
 

@@ -13,9 +13,9 @@ mod search;
 
 ghost use mathlib.Core.Path.{_≡_};
 ghost use Rattle.rules.specs.Stretch.{table};
-ghost use Rattle.clash_laws.specs.Ready.{ready, leastIn};
-use clash_laws::Query;
-use clash_laws::Span;
+ghost use Rattle.check_laws.specs.Ready.{ready, leastIn};
+use check_laws::Query;
+use check_laws::Span;
 
 // A number that is found, and up to where the relations of its level hold.
 pub struct Found {

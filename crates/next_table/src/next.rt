@@ -1,8 +1,8 @@
 // The next number that passes the levels of the table.
 ghost use mathlib.Core.Bool.{Bool};
 ghost use Prim.Native.Nat.{ℕ, _+_, _≤_};
-ghost use Rattle.least.specs.Seek.{Next};
-ghost use Rattle.clash_laws.specs.Read.{cap};
+ghost use Rattle.check_laws.specs.Seek.{Next};
+ghost use Rattle.check_laws.specs.Read.{cap};
 ghost use Rattle.next_table.specs.Table.{Laid, Tabled};
 use crate::climb;
 

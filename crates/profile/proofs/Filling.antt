@@ -8,7 +8,7 @@ use native.Mathlib.Numerals.{add-one}
 use lib.Pow.{pow-mono}
 use Rattle.plural.specs.Select.{bit, maskOf}
 use Rattle.plural.proofs.Masks.{mask-none, mask-more, mask-fits}
-use Rattle.clash_laws.specs.Profile.{valuesOf}
+use Rattle.check_laws.specs.Profile.{valuesOf}
 
 -- the bits of the values below x, and that of x itself
 pub record SoFar (P : ℕ → Bool) (x mask place : ℕ) : Type 0 where

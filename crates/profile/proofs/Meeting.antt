@@ -8,8 +8,8 @@ use lib.Bits.{bitAnd}
 use Rattle.rules.specs.Syntax.{Relation}
 use Rattle.rules.specs.Stretch.{Table, stretch, relationAt, relationsIn}
 use Rattle.rules.proofs.Stretches.{stretch-nil, stretch-snoc}
-use Rattle.clash_laws.specs.Profile.{packed, profileOf}
-use Rattle.clash_laws.proofs.Profiles.{nothing, profile-join}
+use Rattle.check_laws.specs.Profile.{packed, profileOf}
+use Rattle.check_laws.proofs.Profiles.{nothing, profile-join}
 
 module _ (T : Table) (from : ℕ) where
   pub met-none : (j p : ℕ) → j ≡ from → p ≡ packed 32767 1023 1023 7 1023 1023 → p ≡ profileOf (relationsIn T from j)

@@ -14,10 +14,10 @@ use Rattle.rules.specs.Stretch.{stretch, rangeAt, rangesIn}
 use Rattle.rules.proofs.Stretches.{stretch-nil, stretch-snoc, stretch-same}
 use Rattle.plural.specs.Meaning.{any, all}
 use Rattle.plural.specs.Select.{maskOf}
-use Rattle.least.proofs.Seeking.{split, and-true, or-true-left, or-true-right, and-false-left, and-false-right}
-use Rattle.clash_laws.specs.Profile.{valuesOf, round, reaches, spares, endsIn}
-use Rattle.clash_laws.proofs.Bits.{bits-and, bits-or}
-use Rattle.clash_laws.proofs.Searched.{both-held}
+use Rattle.check_laws.proofs.Seeking.{split, and-true, or-true-left, or-true-right, and-false-left, and-false-right}
+use Rattle.check_laws.specs.Profile.{valuesOf, round, reaches, spares, endsIn}
+use Rattle.check_laws.proofs.Bits.{bits-and, bits-or}
+use Rattle.check_laws.proofs.Searched.{both-held}
 use Rattle.runs.proofs.Sweeping.{any-snoc}
 use Rattle.runs.proofs.Keeping.{all-snoc}
 

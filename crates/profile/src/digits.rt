@@ -4,7 +4,7 @@ ghost use mathlib.Core.Bool.{not};
 ghost use Prim.Native.Nat.{ℕ, _+_, _-_, _*_, _%_, _^_, _≤_, _<_, min};
 ghost use Rattle.rules.specs.Stretch.{rangesIn, relationBy};
 ghost use Rattle.plural.specs.Meaning.{any, all};
-ghost use Rattle.clash_laws.specs.Profile.{valuesOf, round, reaches, spares, endsIn};
+ghost use Rattle.check_laws.specs.Profile.{valuesOf, round, reaches, spares, endsIn};
 use crate::values::with_bit;
 use decimal::num::less_by;
 use decimal::num::wide;

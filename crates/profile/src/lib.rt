@@ -13,10 +13,10 @@ ghost use Prim.Native.Nat.{_/_, _%_, _≤_, _<_};
 ghost use Rattle.rules.specs.Syntax.{Relation};
 ghost use Rattle.rules.specs.Stretch.{relationBy, table, relationsIn};
 ghost use Rattle.plural.specs.Meaning.{all};
-ghost use Rattle.clash_laws.specs.Bounded.{bounded};
-ghost use Rattle.clash_laws.specs.Fast.{asksOf, exponentOf, passes, queryT};
-ghost use Rattle.clash_laws.specs.Profile.{packed, profileOf, wholeDigits, partDigits};
-use clash_laws::Bounds;
+ghost use Rattle.check_laws.specs.Bounded.{bounded};
+ghost use Rattle.check_laws.specs.Fast.{asksOf, exponentOf, passes, queryT};
+ghost use Rattle.check_laws.specs.Profile.{packed, profileOf, wholeDigits, partDigits};
+use check_laws::Bounds;
 use rules::Single;
 use rules::single_at;
 

@@ -5,8 +5,8 @@ use mathlib.Core.Logic.{⊎-elim}
 use Prim.Native.Nat.{ℕ, _<_, min, max}
 use native.Mathlib.Omega.{arith}
 use Rattle.decimal.specs.Choice.{both}
-use Rattle.least.specs.Seek.{Alike}
-use Rattle.least.proofs.Seeking.{split, and-true, and-false-left, and-false-right}
+use Rattle.check_laws.specs.Seek.{Alike}
+use Rattle.check_laws.proofs.Seeking.{split, and-true, and-false-left, and-false-right}
 
 -- it says so of the first
 pub alike-at : {P : ℕ → Bool} {x stop : ℕ} {b : Bool} → Alike P x b stop → b ≡ P x

@@ -17,13 +17,13 @@ use Rattle.rules.specs.Syntax.{Relation}
 use Rattle.rules.specs.Stretch.{stretch, Table, relationAt}
 use Rattle.rules.proofs.Stretches.{stretch-snoc}
 use Rattle.plural.specs.Meaning.{all}
-use Rattle.least.specs.Seek.{Alike}
-use Rattle.least.proofs.Seeking.{split, and-false-left, and-false-right}
-use Rattle.clash_laws.specs.Fast.{passes, ends, passesAll}
-use Rattle.clash_laws.specs.Levels.{ownOne, lastDigit, own}
-use Rattle.clash_laws.specs.Read.{cap, joinedIn}
-use Rattle.clash_laws.specs.declared.Query.{Query}
-use Rattle.clash_laws.specs.declared.Span.{Span}
+use Rattle.check_laws.specs.Seek.{Alike}
+use Rattle.check_laws.proofs.Seeking.{split, and-false-left, and-false-right}
+use Rattle.check_laws.specs.Fast.{passes, ends, passesAll}
+use Rattle.check_laws.specs.Levels.{ownOne, lastDigit, own}
+use Rattle.check_laws.specs.Read.{cap, joinedIn}
+use Rattle.check_laws.specs.declared.Query.{Query}
+use Rattle.check_laws.specs.declared.Span.{Span}
 use Rattle.runs.specs.Kept.{sizeOf, placeOf, Told, Kept, Gathered, Listed}
 use Rattle.runs.specs.Runs.{far}
 use Rattle.runs.proofs.Levelling.{tier-other}

@@ -12,13 +12,13 @@ use Rattle.decimal.specs.Choice.{if_then_else_, both}
 use Rattle.decimal.proofs.Choices.{tested, choice}
 use Rattle.rules.specs.Syntax.{Range, Relation}
 use Rattle.plural.specs.Meaning.{any, inRange}
-use Rattle.least.specs.Seek.{Alike}
-use Rattle.least.proofs.Seeking.{split}
-use Rattle.clash_laws.specs.Fast.{listed, test, factor, asked, passes}
-use Rattle.clash_laws.specs.Levels.{levelOf, levelIn, ownOne}
-use Rattle.clash_laws.specs.Ready.{Fit}
-use Rattle.clash_laws.specs.declared.Query.{Query}
-use Rattle.clash_laws.proofs.Searched.{both-held}
+use Rattle.check_laws.specs.Seek.{Alike}
+use Rattle.check_laws.proofs.Seeking.{split}
+use Rattle.check_laws.specs.Fast.{listed, test, factor, asked, passes}
+use Rattle.check_laws.specs.Levels.{levelOf, levelIn, ownOne}
+use Rattle.check_laws.specs.Ready.{Fit}
+use Rattle.check_laws.specs.declared.Query.{Query}
+use Rattle.check_laws.proofs.Searched.{both-held}
 use Rattle.runs.specs.Kept.{tier}
 use Rattle.runs.specs.Runs.{far, upwards}
 use Rattle.runs.proofs.Alikes.{alike-at, alike-same, alike-all, alike-not}

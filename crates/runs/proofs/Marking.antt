@@ -14,13 +14,13 @@ use Rattle.decimal.specs.Choice.{if_then_else_, both}
 use Rattle.decimal.proofs.Choices.{choice, not-both}
 use Rattle.rules.specs.Syntax.{Relation}
 use Rattle.rules.specs.Stretch.{Table}
-use Rattle.least.proofs.Seeking.{split, and-true}
-use Rattle.clash_laws.specs.Fast.{factor, asked}
-use Rattle.clash_laws.specs.Levels.{levelOf, levelIn, stray, ownOne, lastDigit, own, levelled}
-use Rattle.clash_laws.specs.Read.{joinedIn}
-use Rattle.clash_laws.specs.declared.Query.{Query}
-use Rattle.clash_laws.specs.declared.Span.{Span}
-use Rattle.clash_laws.proofs.Searched.{both-held}
+use Rattle.check_laws.proofs.Seeking.{split, and-true}
+use Rattle.check_laws.specs.Fast.{factor, asked}
+use Rattle.check_laws.specs.Levels.{levelOf, levelIn, stray, ownOne, lastDigit, own, levelled}
+use Rattle.check_laws.specs.Read.{joinedIn}
+use Rattle.check_laws.specs.declared.Query.{Query}
+use Rattle.check_laws.specs.declared.Span.{Span}
+use Rattle.check_laws.proofs.Searched.{both-held}
 use Rattle.runs.specs.Kept.{sizeOf, tier, Told}
 use Rattle.runs.specs.Runs.{Noted, Grown}
 use Rattle.runs.proofs.Levelling.{not-asked}

@@ -14,10 +14,10 @@ use Rattle.rules.specs.Syntax.{Range}
 use Rattle.rules.specs.Stretch.{stretch, rangeAt, rangesIn}
 use Rattle.rules.proofs.Stretches.{stretch-snoc}
 use Rattle.plural.specs.Meaning.{any, inRange}
-use Rattle.least.specs.Seek.{Alike}
-use Rattle.least.proofs.Seeking.{and-true, and-false-left, and-false-right, or-false, or-true-left, or-true-right}
-use Rattle.clash_laws.specs.Read.{cap}
-use Rattle.clash_laws.proofs.Searched.{both-held}
+use Rattle.check_laws.specs.Seek.{Alike}
+use Rattle.check_laws.proofs.Seeking.{and-true, and-false-left, and-false-right, or-false, or-true-left, or-true-right}
+use Rattle.check_laws.specs.Read.{cap}
+use Rattle.check_laws.proofs.Searched.{both-held}
 use Rattle.runs.specs.Runs.{far, nextWith}
 use Rattle.runs.proofs.Alikes.{alike-same}
 

@@ -8,10 +8,10 @@ use lib.ListN.{getD}
 use Rattle.decimal.specs.Choice.{if_then_else_}
 use Rattle.rules.specs.Syntax.{Relation}
 use Rattle.rules.specs.Stretch.{Table, relationAt}
-use Rattle.clash_laws.specs.Fast.{asked}
-use Rattle.clash_laws.specs.Levels.{levelIn, ownOne}
-use Rattle.clash_laws.specs.declared.Query.{Query}
-use Rattle.clash_laws.specs.declared.Span.{Span}
+use Rattle.check_laws.specs.Fast.{asked}
+use Rattle.check_laws.specs.Levels.{levelIn, ownOne}
+use Rattle.check_laws.specs.declared.Query.{Query}
+use Rattle.check_laws.specs.declared.Span.{Span}
 
 -- how many relations the clause has, and where the one of index k stands
 abbrev pub sizeOf : Span → ℕ

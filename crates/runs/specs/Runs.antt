@@ -7,9 +7,9 @@ use lib.Dec.{ltb, eqb}
 use lib.ListN.{getD}
 use Rattle.decimal.specs.Choice.{if_then_else_}
 use Rattle.rules.specs.Syntax.{Relation}
-use Rattle.clash_laws.specs.Fast.{asked}
-use Rattle.clash_laws.specs.Levels.{levelIn}
-use Rattle.clash_laws.specs.declared.Query.{Query}
+use Rattle.check_laws.specs.Fast.{asked}
+use Rattle.check_laws.specs.Levels.{levelIn}
+use Rattle.check_laws.specs.declared.Query.{Query}
 use Rattle.runs.specs.declared.Run.{Run}
 
 -- past every number that is asked

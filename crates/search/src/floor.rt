@@ -5,13 +5,13 @@ ghost use Prim.Native.Nat.{_^_};
 ghost use lib.Dec.{eqb};
 ghost use Rattle.decimal.specs.Choice.{if_then_else_};
 ghost use Rattle.number.specs.Limits.{maxDigits};
-ghost use Rattle.clash_laws.specs.Floors.{NoneBelow, raised};
-ghost use Rattle.clash_laws.specs.Read.{joinedIn};
-ghost use Rattle.clash_laws.specs.Ready.{leastIn};
+ghost use Rattle.check_laws.specs.Floors.{NoneBelow, raised};
+ghost use Rattle.check_laws.specs.Read.{joinedIn};
+ghost use Rattle.check_laws.specs.Ready.{leastIn};
 use crate::limits;
-use clash_laws::Floors;
-use clash_laws::Query;
-use clash_laws::Span;
+use check_laws::Floors;
+use check_laws::Query;
+use check_laws::Span;
 use decimal::num::greater;
 
 // The least number from lo on and below hi that passes, or hi. Where the floor is not below hi there is

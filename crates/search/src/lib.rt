@@ -18,17 +18,17 @@ ghost use Rattle.number.specs.Limits.{maxDigits, maxPlaces};
 ghost use Rattle.number.specs.declared.Number.{Number};
 ghost use Rattle.plural.specs.Meaning.{clauseHolds};
 ghost use Rattle.rules.specs.Stretch.{table};
-ghost use Rattle.clash_laws.specs.Bounded.{withinPlaces};
-ghost use Rattle.clash_laws.specs.Check.{leastRank};
-ghost use Rattle.clash_laws.specs.Fast.{queryI, alone, search};
-ghost use Rattle.clash_laws.specs.Floors.{Under};
-ghost use Rattle.clash_laws.specs.Profile.{profileOf};
-ghost use Rattle.clash_laws.specs.Read.{joinedIn};
-ghost use Rattle.clash_laws.specs.Spots.{spotRank, Proper};
+ghost use Rattle.check_laws.specs.Bounded.{withinPlaces};
+ghost use Rattle.check_laws.specs.Check.{leastRank};
+ghost use Rattle.check_laws.specs.Fast.{queryI, alone, search};
+ghost use Rattle.check_laws.specs.Floors.{Under};
+ghost use Rattle.check_laws.specs.Profile.{profileOf};
+ghost use Rattle.check_laws.specs.Read.{joinedIn};
+ghost use Rattle.check_laws.specs.Spots.{spotRank, Proper};
 use answer::Witness;
-use clash_laws::Bounds;
-use clash_laws::Floors;
-use clash_laws::Span;
+use check_laws::Bounds;
+use check_laws::Floors;
+use check_laws::Span;
 
 // The least admitted number that meets the relations of both stretches and whose v is within the
 // bounds; order::nowhere() where there is none. p is the relations' profile; the floors, and the profile's last

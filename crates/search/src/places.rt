@@ -8,9 +8,9 @@ ghost use Rattle.decimal.specs.Choice.{both};
 ghost use Rattle.number.specs.Limits.{maxPlaces};
 ghost use Rattle.rules.specs.Syntax.{Relation};
 ghost use Rattle.plural.specs.Meaning.{all};
-ghost use Rattle.least.specs.Seek.{seek};
-ghost use Rattle.clash_laws.specs.Fast.{settledF, wholeCode, partCode, tailPlaces, fractions};
-ghost use Rattle.clash_laws.specs.Profile.{profileOf, marked, Settled, leastRoom};
+ghost use Rattle.check_laws.specs.Seek.{seek};
+ghost use Rattle.check_laws.specs.Fast.{settledF, wholeCode, partCode, tailPlaces, fractions};
+ghost use Rattle.check_laws.specs.Profile.{profileOf, marked, Settled, leastRoom};
 use crate::limits;
 use decimal::num::power;
 

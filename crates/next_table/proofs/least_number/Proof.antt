@@ -1,7 +1,7 @@
 -- `next_table::least_number` searches where there is room.
 use mathlib.Core.Path.{sym, _∙_}
 use Rattle.rules.specs.Stretch.{table}
-use Rattle.clash_laws.proofs.Readying.{ready-room, ready-fit}
+use Rattle.check_laws.proofs.Readying.{ready-room, ready-fit}
 use Rattle.next_table.proofs.Searching.{answer-ready, answer-not}
 use borrow.Author.Needs.{needs}
 use Rattle.next_table.proofs.least_number.Statement.{statement}

@@ -1,6 +1,6 @@
 -- `profile::allows_zero`: the lowest flag.
 use mathlib.Core.Path.{refl}
-use Rattle.clash_laws.proofs.Profiles.{profile-zero}
+use Rattle.check_laws.proofs.Profiles.{profile-zero}
 use borrow.Author.Needs.{needs}
 use Rattle.profile.proofs.allows_zero.Statement.{statement}
 use Rattle.profile.proofs.allows_zero.Tie as tie

@@ -6,7 +6,7 @@ use Prim.Native.Nat.{_-_, _≤_}
 use native.Mathlib.Omega.{arith}
 use Rattle.rules.specs.Stretch.{relationBy, table, relationsIn}
 use Rattle.rules.specs.declared.Single.{Single}
-use Rattle.clash_laws.specs.Profile.{profileOf}
+use Rattle.check_laws.specs.Profile.{profileOf}
 use Rattle.profile.proofs.Meeting.{met-none, met-more, met-all}
 use borrow.Author.Needs.{needs}
 use Rattle.profile.proofs.clause_profile.Statement.{statement}

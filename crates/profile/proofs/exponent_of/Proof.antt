@@ -3,7 +3,7 @@ use mathlib.Core.Path.{refl}
 use Prim.Native.Nat.{_%_}
 use lib.Count.{trailing-le}
 use native.Mathlib.Omega.{arith}
-use Rattle.clash_laws.proofs.Profiles.{profile-exponent, profile-no-exponent}
+use Rattle.check_laws.proofs.Profiles.{profile-exponent, profile-no-exponent}
 use borrow.Author.Needs.{needs}
 use Rattle.profile.proofs.exponent_of.Statement.{statement}
 use Rattle.profile.proofs.exponent_of.Tie as tie

@@ -3,9 +3,9 @@ use Rattle.rules.specs.Stretch.{relationBy}
 use mathlib.Core.Path.{refl, ap, _∙_}
 use Prim.Native.Nat.{ℕ, _+_}
 use native.Mathlib.Omega.{arith}
-use Rattle.clash_laws.specs.Fast.{test}
-use Rattle.clash_laws.specs.Profile.{packed}
-use Rattle.clash_laws.proofs.Profiles.{by-n, by-not-n, by-i, by-f, by-t, by-v, by-w, by-e}
+use Rattle.check_laws.specs.Fast.{test}
+use Rattle.check_laws.specs.Profile.{packed}
+use Rattle.check_laws.proofs.Profiles.{by-n, by-not-n, by-i, by-f, by-t, by-v, by-w, by-e}
 use borrow.Author.Needs.{needs}
 use Rattle.profile.proofs.relation_profile.Statement.{statement}
 use Rattle.profile.proofs.relation_profile.Tie as tie

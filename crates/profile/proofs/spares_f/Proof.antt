@@ -1,6 +1,6 @@
 -- `profile::spares_f`: the highest flag.
 use mathlib.Core.Path.{refl}
-use Rattle.clash_laws.proofs.Profiles.{profile-f}
+use Rattle.check_laws.proofs.Profiles.{profile-f}
 use borrow.Author.Needs.{needs}
 use Rattle.profile.proofs.spares_f.Statement.{statement}
 use Rattle.profile.proofs.spares_f.Tie as tie

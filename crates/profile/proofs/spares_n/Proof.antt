@@ -1,6 +1,6 @@
 -- `profile::spares_n`: the flag above it.
 use mathlib.Core.Path.{refl}
-use Rattle.clash_laws.proofs.Profiles.{profile-n}
+use Rattle.check_laws.proofs.Profiles.{profile-n}
 use borrow.Author.Needs.{needs}
 use Rattle.profile.proofs.spares_n.Statement.{statement}
 use Rattle.profile.proofs.spares_n.Tie as tie

@@ -3,7 +3,7 @@ use mathlib.Core.Path.{ap}
 use Prim.Native.Nat.{ℕ}
 use lib.Bits.{bitAnd}
 use native.Mathlib.Omega.{arith}
-use Rattle.clash_laws.proofs.Profiles.{bounded-profile, unbounded-profile}
+use Rattle.check_laws.proofs.Profiles.{bounded-profile, unbounded-profile}
 use borrow.Author.Needs.{needs}
 use Rattle.profile.proofs.within.Statement.{statement}
 use Rattle.profile.proofs.within.Tie as tie

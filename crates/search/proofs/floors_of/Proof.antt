@@ -1,9 +1,9 @@
 -- `search::floors_of` is three searches from 0 on, where 0 is a floor.
 use native.Mathlib.Omega.{arith}
 use Rattle.rules.specs.Stretch.{table}
-use Rattle.clash_laws.specs.Read.{joinedIn}
-use Rattle.clash_laws.specs.declared.Floors.{Floors}
-use Rattle.clash_laws.proofs.Flooring.{found-integer, found-tail, under-found}
+use Rattle.check_laws.specs.Read.{joinedIn}
+use Rattle.check_laws.specs.declared.Floors.{Floors}
+use Rattle.check_laws.proofs.Flooring.{found-integer, found-tail, under-found}
 use borrow.Author.Needs.{needs}
 use mathlib.Core.Bool.{true, false}
 use Rattle.search.proofs.floors_of.Statement.{statement}

@@ -1,11 +1,11 @@
 -- `search::least_admitted` is the search that is run, and that is the definition's.
 use Rattle.rules.specs.Stretch.{table}
-use Rattle.clash_laws.specs.Read.{joinedIn}
-use Rattle.clash_laws.specs.Spots.{spotRank}
+use Rattle.check_laws.specs.Read.{joinedIn}
+use Rattle.check_laws.specs.Spots.{spotRank}
 use mathlib.Core.Path.{sym, subst}
-use Rattle.clash_laws.specs.Floors.{Under}
-use Rattle.clash_laws.proofs.Bounding.{bounded-least}
-use Rattle.clash_laws.proofs.LastDigit.{raised-under}
+use Rattle.check_laws.specs.Floors.{Under}
+use Rattle.check_laws.proofs.Bounding.{bounded-least}
+use Rattle.check_laws.proofs.LastDigit.{raised-under}
 use borrow.Author.Needs.{needs}
 use Rattle.search.proofs.least_admitted.Statement.{statement}
 use Rattle.search.proofs.least_admitted.Tie as tie

@@ -2,7 +2,7 @@
 use native.Mathlib.Omega.{arith}
 use Prim.Native.Nat.{_-_}
 use mathlib.Core.Path.{_≡_, refl, _∙_}
-use Rattle.least.specs.Segments.{upTo}
+use Rattle.check_laws.specs.Segments.{upTo}
 use Rattle.next_table.specs.Table.{segmentsIn}
 use Rattle.next_table.proofs.Climbing.{up-end, up-skip}
 use borrow.Author.Needs.{needs}

@@ -2,8 +2,8 @@
 use native.Mathlib.Omega.{arith}
 use Prim.Native.Nat.{_≤_, _-_}
 use Rattle.rules.specs.Stretch.{table}
-use Rattle.clash_laws.specs.Levels.{own, below}
-use Rattle.clash_laws.specs.Read.{joinedIn}
+use Rattle.check_laws.specs.Levels.{own, below}
+use Rattle.check_laws.specs.Read.{joinedIn}
 use Rattle.runs.specs.Kept.{Kept}
 use Rattle.next_table.proofs.Finding.{NoneTo, none-to, opens-found, opens-none}
 use Rattle.next_table.proofs.find.find.Statement.{statement}

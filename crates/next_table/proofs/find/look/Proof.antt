@@ -1,9 +1,9 @@
 -- `next_table::find::look` asks the run of p, and where it holds the levels below.
 use native.Mathlib.Omega.{arith}
 use Rattle.rules.specs.Stretch.{table}
-use Rattle.clash_laws.specs.Levels.{below}
-use Rattle.clash_laws.specs.Read.{joinedIn}
-use Rattle.clash_laws.proofs.Searched.{room-le}
+use Rattle.check_laws.specs.Levels.{below}
+use Rattle.check_laws.specs.Read.{joinedIn}
+use Rattle.check_laws.proofs.Searched.{room-le}
 use Rattle.next_table.proofs.Finding.{looked-on, looked-off}
 use borrow.Author.Needs.{needs}
 use Rattle.next_table.proofs.find.look.Statement.{statement}

@@ -1,7 +1,7 @@
 -- `next_table::level::add_level`: the level asks nothing, or has segments, or lets no number pass, or has no room.
 use native.Mathlib.Omega.{arith}
 use Rattle.rules.specs.Stretch.{table}
-use Rattle.clash_laws.specs.Read.{joinedIn}
+use Rattle.check_laws.specs.Read.{joinedIn}
 use borrow.Author.Tests.{not-true}
 use Rattle.next_table.proofs.Building.{added-free, added-level, added-none, is-full}
 use borrow.Author.Needs.{needs}

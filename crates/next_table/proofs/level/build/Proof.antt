@@ -2,7 +2,7 @@
 use native.Mathlib.Omega.{arith}
 use Prim.Native.Nat.{_-_}
 use Rattle.rules.specs.Stretch.{table}
-use Rattle.clash_laws.specs.Read.{joinedIn}
+use Rattle.check_laws.specs.Read.{joinedIn}
 use Rattle.next_table.proofs.Building.{Building, building-start, building-more, built-empty, built-all, is-full, level-small}
 use borrow.Author.Needs.{needs}
 use Rattle.next_table.proofs.level.build.Statement.{statement}

@@ -4,9 +4,9 @@ use lib.ListN.{length-replicate}
 use Rattle.runs.proofs.Keeping.{gathered-listed}
 use Prim.Native.Nat.{ℕ, _-_}
 use Rattle.rules.specs.Stretch.{table}
-use Rattle.clash_laws.specs.Levels.{own, below}
-use Rattle.clash_laws.specs.Read.{joinedIn}
-use Rattle.clash_laws.proofs.Readying.{fit-room}
+use Rattle.check_laws.specs.Levels.{own, below}
+use Rattle.check_laws.specs.Read.{joinedIn}
+use Rattle.check_laws.proofs.Readying.{fit-room}
 use Rattle.runs.specs.Kept.{Kept}
 use Rattle.next_table.proofs.Finding.{kept-fresh}
 use Rattle.next_table.proofs.Building.{Filling, filling-start, filling-more, filling-done, filling-all, level-small}

@@ -4,7 +4,7 @@ use lib.ListN.{length-replicate}
 use Rattle.runs.proofs.Keeping.{gathered-listed}
 use Prim.Native.Nat.{ℕ}
 use Rattle.rules.specs.Stretch.{table}
-use Rattle.clash_laws.specs.Read.{joinedIn}
+use Rattle.check_laws.specs.Read.{joinedIn}
 use Rattle.next_table.proofs.Finding.{kept-fresh}
 use Rattle.next_table.proofs.Searching.{least-levelled}
 use borrow.Author.Needs.{needs}

@@ -3,8 +3,8 @@ use native.Mathlib.Omega.{arith}
 use mathlib.Core.Path.{sym, _∙_}
 use borrow.Author.Tests.{not-true}
 use Rattle.rules.specs.Stretch.{table}
-use Rattle.clash_laws.specs.Read.{joinedIn}
-use Rattle.clash_laws.proofs.Searched.{room-le}
+use Rattle.check_laws.specs.Read.{joinedIn}
+use Rattle.check_laws.proofs.Searched.{room-le}
 use Rattle.next_table.proofs.Searching.{least-free, window-past, window-hit, window-on}
 use borrow.Author.Needs.{needs}
 use Rattle.next_table.proofs.search.by_window.Statement.{statement}

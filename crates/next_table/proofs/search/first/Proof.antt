@@ -2,7 +2,7 @@
 use native.Mathlib.Omega.{arith}
 use Prim.Native.Nat.{ℕ}
 use mathlib.Core.Path.{_≡_, sym, ap, _∙_}
-use Rattle.clash_laws.specs.Fast.{ends}
+use Rattle.check_laws.specs.Fast.{ends}
 use borrow.Author.Needs.{needs}
 use Rattle.next_table.proofs.search.first.Statement.{statement}
 use Rattle.next_table.proofs.search.first.Tie as tie

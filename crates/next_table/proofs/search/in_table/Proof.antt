@@ -1,6 +1,6 @@
 -- `next_table::search::in_table`: the table stands, or no number passes its levels, or each number is tried.
 use Rattle.rules.specs.Stretch.{table}
-use Rattle.clash_laws.specs.Read.{joinedIn}
+use Rattle.check_laws.specs.Read.{joinedIn}
 use Rattle.next_table.proofs.Searching.{least-empty, laid-fresh}
 use borrow.Author.Needs.{needs}
 use Rattle.next_table.proofs.search.in_table.Statement.{statement}

@@ -5,9 +5,9 @@ use Rattle.runs.proofs.Keeping.{gathered-listed}
 use Prim.Native.Nat.{ℕ, _-_}
 use mathlib.Core.Path.{_∙_}
 use Rattle.rules.specs.Stretch.{table}
-use Rattle.clash_laws.specs.Read.{joinedIn}
-use Rattle.clash_laws.specs.Levels.{own, window}
-use Rattle.clash_laws.proofs.Searched.{room-le}
+use Rattle.check_laws.specs.Read.{joinedIn}
+use Rattle.check_laws.specs.Levels.{own, window}
+use Rattle.check_laws.proofs.Searched.{room-le}
 use Rattle.runs.specs.Kept.{Kept}
 use Rattle.next_table.proofs.Finding.{kept-fresh}
 use Rattle.next_table.proofs.Searching.{Passed, passed-start, passed-more, passed-hit, passed-end}

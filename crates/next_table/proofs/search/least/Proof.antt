@@ -2,9 +2,9 @@
 use native.Mathlib.Omega.{arith}
 use mathlib.Core.Path.{sym, _∙_}
 use Rattle.rules.specs.Stretch.{table}
-use Rattle.clash_laws.specs.Fast.{passesAll}
-use Rattle.clash_laws.specs.Read.{joinedIn}
-use Rattle.clash_laws.proofs.Searched.{room-le}
+use Rattle.check_laws.specs.Fast.{passesAll}
+use Rattle.check_laws.specs.Read.{joinedIn}
+use Rattle.check_laws.proofs.Searched.{room-le}
 use Rattle.next_table.proofs.Searching.{passed-ends, passed-hit, passed-end}
 use borrow.Author.Needs.{needs}
 use Rattle.next_table.proofs.search.least.Statement.{statement}

@@ -3,9 +3,9 @@ use native.Mathlib.Omega.{arith}
 use Prim.Native.Nat.{_-_}
 use mathlib.Core.Path.{sym, _∙_}
 use Rattle.rules.specs.Stretch.{table}
-use Rattle.clash_laws.specs.Read.{joinedIn}
-use Rattle.clash_laws.specs.Fast.{passesAll}
-use Rattle.clash_laws.proofs.Searched.{room-le}
+use Rattle.check_laws.specs.Read.{joinedIn}
+use Rattle.check_laws.specs.Fast.{passesAll}
+use Rattle.check_laws.proofs.Searched.{room-le}
 use Rattle.next_table.proofs.Searching.{Passed, passed-start, passed-one, passed-hit, passed-end}
 use borrow.Author.Needs.{needs}
 use Rattle.next_table.proofs.search.try_each.Statement.{statement}

@@ -3,7 +3,7 @@ use native.Mathlib.Omega.{arith}
 use mathlib.Core.Path.{_≡_, ap₂, _∙_}
 use Prim.Native.Nat.{ℕ, _+_, _-_, _/_, _%_, _^_, _≤_}
 use lib.Pow.{pow-mono}
-use Rattle.clash_laws.specs.Profile.{round}
+use Rattle.check_laws.specs.Profile.{round}
 use Rattle.profile.proofs.Filling.{values-lt}
 use Rattle.profile.proofs.Rounds.{in-a-row}
 use borrow.Author.Needs.{needs}

@@ -2,7 +2,7 @@
 use native.Mathlib.Omega.{arith}
 use mathlib.Core.Path.{refl}
 use Prim.Native.Nat.{ℕ, _-_, _≤_}
-use Rattle.clash_laws.specs.Profile.{spares}
+use Rattle.check_laws.specs.Profile.{spares}
 use Rattle.profile.proofs.Filling.{SoFar, so-far-none, so-far-lt, so-far-room, so-far-more, so-far-all, values-lt}
 use borrow.Author.Needs.{needs}
 use Rattle.profile.proofs.digits.spared_digits.Statement.{statement}

@@ -3,7 +3,7 @@ use native.Mathlib.Omega.{arith}
 use Rattle.profile.proofs.Filling.{SoFar, so-far-none, so-far-lt, so-far-room, so-far-more, so-far-all, values-lt}
 use mathlib.Core.Path.{refl}
 use Prim.Native.Nat.{_-_, _≤_}
-use Rattle.clash_laws.specs.Bounded.{fromTo}
+use Rattle.check_laws.specs.Bounded.{fromTo}
 use borrow.Author.Needs.{needs}
 use Rattle.profile.proofs.values.between.Statement.{statement}
 use Rattle.profile.proofs.values.between.Tie as tie

@@ -1,5 +1,5 @@
 -- `profile::values::is_between`: below the least, or a test of the most.
-use Rattle.clash_laws.proofs.Bounding.{below-least, from-least}
+use Rattle.check_laws.proofs.Bounding.{below-least, from-least}
 use borrow.Author.Needs.{needs}
 use Rattle.profile.proofs.values.is_between.Statement.{statement}
 use Rattle.profile.proofs.values.is_between.Tie as tie

@@ -4,7 +4,7 @@ use Rattle.profile.proofs.Filling.{SoFar, so-far-none, so-far-lt, so-fa
 use Rattle.rules.specs.Stretch.{relationBy}
 use mathlib.Core.Path.{refl}
 use Prim.Native.Nat.{_-_, _≤_}
-use Rattle.clash_laws.specs.Fast.{test}
+use Rattle.check_laws.specs.Fast.{test}
 use borrow.Author.Needs.{needs}
 use Rattle.profile.proofs.values.values_of.Statement.{statement}
 use Rattle.profile.proofs.values.values_of.Tie as tie

@@ -7,8 +7,8 @@ use borrow.Author.Tests.{not-true, not-false}
 use Rattle.rules.specs.Syntax.{Relation}
 use Rattle.rules.specs.declared.Single.{Single}
 use Rattle.plural.proofs.Meanings.{all-failed, all-next, all-passed}
-use Rattle.clash_laws.specs.Fast.{passes, passesAll}
-use Rattle.clash_laws.specs.Read.{joinedIn}
+use Rattle.check_laws.specs.Fast.{passes, passesAll}
+use Rattle.check_laws.specs.Read.{joinedIn}
 use Rattle.runs.specs.Kept.{sizeOf}
 use Rattle.runs.proofs.Keeping.{relationOf, Rest, rest-all, ends-not}
 use borrow.Author.Needs.{needs}

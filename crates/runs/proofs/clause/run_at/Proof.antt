@@ -4,8 +4,8 @@ use Prim.Native.Nat.{ℕ}
 use mathlib.Core.Path.{sym, ap, subst, _∙_}
 use Rattle.rules.specs.Stretch.{singleAt, relationBy, table, relationAt}
 use Rattle.rules.specs.declared.Single.{Single}
-use Rattle.least.specs.Seek.{Alike}
-use Rattle.clash_laws.specs.Levels.{ownOne}
+use Rattle.check_laws.specs.Seek.{Alike}
+use Rattle.check_laws.specs.Levels.{ownOne}
 use Rattle.runs.specs.Kept.{tier}
 use Rattle.runs.proofs.Keeping.{relationOf, kept-there, kept-set}
 use borrow.Author.Needs.{needs}

@@ -1,5 +1,5 @@
 -- `runs::relation::asked_factor`: f, or another, whose factor is 1.
-use Rattle.clash_laws.proofs.Searched.{factor-f}
+use Rattle.check_laws.proofs.Searched.{factor-f}
 use Rattle.runs.proofs.Levelling.{factor-one}
 use borrow.Author.Needs.{needs}
 use Rattle.runs.proofs.relation.asked_factor.Statement.{statement}

@@ -1,5 +1,5 @@
 -- `runs::relation::factor_of` gives the operand's factor: a way for each letter.
-use Rattle.clash_laws.proofs.Searched.{factor-n, factor-i, factor-f, factor-t, factor-none}
+use Rattle.check_laws.proofs.Searched.{factor-n, factor-i, factor-f, factor-t, factor-none}
 use borrow.Author.Needs.{needs}
 use Rattle.runs.proofs.relation.factor_of.Statement.{statement}
 use Rattle.runs.proofs.relation.factor_of.Tie as tie

@@ -1,7 +1,7 @@
 -- `runs::relation::passes_of`: what is not asked passes.
 use native.Mathlib.Omega.{arith}
 use Rattle.rules.specs.Stretch.{relationBy}
-use Rattle.clash_laws.proofs.Searched.{room-factor}
+use Rattle.check_laws.proofs.Searched.{room-factor}
 use Rattle.runs.proofs.Levelling.{passes-unasked, passes-asked}
 use borrow.Author.Needs.{needs}
 use Rattle.runs.proofs.relation.passes_of.Statement.{statement}

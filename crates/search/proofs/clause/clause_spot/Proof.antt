@@ -1,8 +1,8 @@
 -- `search::clause::clause_spot`: no e, or the number at the least e.
 use Rattle.rules.specs.Stretch.{table}
-use Rattle.clash_laws.specs.Read.{joinedIn}
-use Rattle.clash_laws.specs.Bounded.{bounded}
-use Rattle.clash_laws.proofs.Spotting.{clause-none}
+use Rattle.check_laws.specs.Read.{joinedIn}
+use Rattle.check_laws.specs.Bounded.{bounded}
+use Rattle.check_laws.proofs.Spotting.{clause-none}
 use borrow.Author.Needs.{needs}
 use Rattle.search.proofs.clause.clause_spot.Statement.{statement}
 use Rattle.search.proofs.clause.clause_spot.Tie as tie

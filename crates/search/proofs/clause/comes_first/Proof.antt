@@ -4,8 +4,8 @@ use mathlib.Core.Bool.{false≢true}
 use Prim.Native.Nat.{ℕ, _^_, _<_}
 use borrow.Author.Tests.{not-true, ltb-true}
 use Rattle.number.specs.Limits.{maxDigits}
-use Rattle.clash_laws.specs.Fast.{fractions}
-use Rattle.clash_laws.proofs.Whole.{n-unasked-first, no-places-first}
+use Rattle.check_laws.specs.Fast.{fractions}
+use Rattle.check_laws.proofs.Whole.{n-unasked-first, no-places-first}
 use borrow.Author.Needs.{needs}
 use Rattle.search.proofs.clause.comes_first.Statement.{statement}
 use Rattle.search.proofs.clause.comes_first.Tie as tie

@@ -1,10 +1,10 @@
 -- `search::clause::integer_of` is a search with the factor 1 for i, and for n where f is 0.
 use mathlib.Core.Path.{_∙_}
 use Rattle.rules.specs.Stretch.{table}
-use Rattle.clash_laws.specs.Read.{joinedIn}
-use Rattle.clash_laws.proofs.Flooring.{below-integer}
-use Rattle.clash_laws.proofs.Spotting.{low-le, integer-is}
-use Rattle.clash_laws.proofs.Readying.{integer-ready}
+use Rattle.check_laws.specs.Read.{joinedIn}
+use Rattle.check_laws.proofs.Flooring.{below-integer}
+use Rattle.check_laws.proofs.Spotting.{low-le, integer-is}
+use Rattle.check_laws.proofs.Readying.{integer-ready}
 use borrow.Author.Needs.{needs}
 use Rattle.search.proofs.clause.integer_of.Statement.{statement}
 use Rattle.search.proofs.clause.integer_of.Tie as tie

@@ -1,5 +1,5 @@
 -- `search::clause::lowest_of`: 0 for no exponent.
-use Rattle.clash_laws.proofs.Spotting.{low-none, low-some}
+use Rattle.check_laws.proofs.Spotting.{low-none, low-some}
 use borrow.Author.Needs.{needs}
 use Rattle.search.proofs.clause.lowest_of.Statement.{statement}
 use Rattle.search.proofs.clause.lowest_of.Tie as tie

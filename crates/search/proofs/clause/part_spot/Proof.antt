@@ -1,18 +1,18 @@
 -- `search::clause::part_spot`: no v or w, no t, no i, no f, or all.
 use Rattle.rules.specs.Stretch.{table}
-use Rattle.clash_laws.specs.Read.{joinedIn}
-use Rattle.clash_laws.specs.Bounded.{bounded}
+use Rattle.check_laws.specs.Read.{joinedIn}
+use Rattle.check_laws.specs.Bounded.{bounded}
 use mathlib.Core.Path.{refl, _∙_}
 use mathlib.Core.Bool.{false}
 use Prim.Native.Nat.{_^_}
 use native.Mathlib.Omega.{arith}
 use borrow.Author.Tests.{not-true}
 use Rattle.number.specs.Limits.{maxPlaces}
-use Rattle.clash_laws.proofs.Bounding.{bounded-integer, bounded-alone}
-use Rattle.clash_laws.proofs.Flooring.{tail-past}
-use Rattle.clash_laws.proofs.Placing.{code-part, part-none}
-use Rattle.clash_laws.proofs.Profiles.{profile-settled}
-use Rattle.clash_laws.proofs.Spotting.{kind-no-fraction, kind-none}
+use Rattle.check_laws.proofs.Bounding.{bounded-integer, bounded-alone}
+use Rattle.check_laws.proofs.Flooring.{tail-past}
+use Rattle.check_laws.proofs.Placing.{code-part, part-none}
+use Rattle.check_laws.proofs.Profiles.{profile-settled}
+use Rattle.check_laws.proofs.Spotting.{kind-no-fraction, kind-none}
 use borrow.Author.Needs.{needs}
 use Rattle.search.proofs.clause.part_spot.Statement.{statement}
 use Rattle.search.proofs.clause.part_spot.Tie as tie

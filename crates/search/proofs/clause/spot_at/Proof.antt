@@ -1,13 +1,13 @@
 -- `search::clause::spot_at`: only where f is not 0, or where it is 0 and that comes first, or the earlier of both.
 use Rattle.rules.specs.Stretch.{table}
-use Rattle.clash_laws.specs.Read.{joinedIn}
-use Rattle.clash_laws.specs.Bounded.{bounded}
+use Rattle.check_laws.specs.Read.{joinedIn}
+use Rattle.check_laws.specs.Bounded.{bounded}
 use mathlib.Core.Path.{refl, _∙_}
 use mathlib.Core.Bool.{true}
-use Rattle.clash_laws.proofs.Bounding.{bounded-integer}
-use Rattle.clash_laws.proofs.Placing.{code-whole}
-use Rattle.clash_laws.proofs.Spotting.{clause-some}
-use Rattle.clash_laws.proofs.Whole.{clause-whole, clause-part}
+use Rattle.check_laws.proofs.Bounding.{bounded-integer}
+use Rattle.check_laws.proofs.Placing.{code-whole}
+use Rattle.check_laws.proofs.Spotting.{clause-some}
+use Rattle.check_laws.proofs.Whole.{clause-whole, clause-part}
 use borrow.Author.Needs.{needs}
 use Rattle.search.proofs.clause.spot_at.Statement.{statement}
 use Rattle.search.proofs.clause.spot_at.Tie as tie

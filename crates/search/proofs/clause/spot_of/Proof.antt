@@ -1,6 +1,6 @@
 -- `search::clause::spot_of`: there is no i, or there are both.
 use native.Mathlib.Omega.{arith}
-use Rattle.clash_laws.proofs.Spotting.{kind-no-integer, kind-found, kind-proper}
+use Rattle.check_laws.proofs.Spotting.{kind-no-integer, kind-found, kind-proper}
 use borrow.Author.Needs.{needs}
 use Rattle.search.proofs.clause.spot_of.Statement.{statement}
 use Rattle.search.proofs.clause.spot_of.Tie as tie

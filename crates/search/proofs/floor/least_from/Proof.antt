@@ -1,6 +1,6 @@
 -- `search::floor::least_from`: nothing below the floor passes, so the search that starts there finds the same.
 use Rattle.rules.specs.Stretch.{table}
-use Rattle.clash_laws.proofs.Flooring.{least-from, least-past}
+use Rattle.check_laws.proofs.Flooring.{least-from, least-past}
 use borrow.Author.Needs.{needs}
 use Rattle.search.proofs.floor.least_from.Statement.{statement}
 use Rattle.search.proofs.floor.least_from.Tie as tie

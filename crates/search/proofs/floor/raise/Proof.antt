@@ -4,7 +4,7 @@ use Prim.Native.Nat.{ℕ, _^_}
 use lib.Dec.{eqb}
 use Rattle.decimal.specs.Choice.{if_then_else_}
 use Rattle.number.specs.Limits.{maxDigits}
-use Rattle.clash_laws.specs.declared.Floors.{Floors}
+use Rattle.check_laws.specs.declared.Floors.{Floors}
 use borrow.Author.Needs.{needs}
 use Rattle.search.proofs.floor.raise.Statement.{statement}
 use Rattle.search.proofs.floor.raise.Tie as tie

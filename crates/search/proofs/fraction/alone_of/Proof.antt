@@ -1,9 +1,9 @@
 -- `search::fraction::alone_of` is a search that asks t only.
 use mathlib.Core.Path.{_∙_}
 use Rattle.rules.specs.Stretch.{table}
-use Rattle.clash_laws.specs.Read.{joinedIn}
-use Rattle.clash_laws.proofs.Placing.{alone-is}
-use Rattle.clash_laws.proofs.Readying.{alone-ready}
+use Rattle.check_laws.specs.Read.{joinedIn}
+use Rattle.check_laws.proofs.Placing.{alone-is}
+use Rattle.check_laws.proofs.Readying.{alone-ready}
 use borrow.Author.Needs.{needs}
 use Rattle.search.proofs.fraction.alone_of.Statement.{statement}
 use Rattle.search.proofs.fraction.alone_of.Tie as tie

@@ -1,11 +1,11 @@
 -- `search::fraction::asked_code`: no v has room, the bound is reached, or a search at each count of zeros.
 use Rattle.rules.specs.Stretch.{table}
-use Rattle.clash_laws.specs.Read.{joinedIn}
-use Rattle.clash_laws.specs.Bounded.{bounded}
+use Rattle.check_laws.specs.Read.{joinedIn}
+use Rattle.check_laws.specs.Bounded.{bounded}
 use mathlib.Core.Path.{_∙_}
 use native.Mathlib.Omega.{arith}
-use Rattle.clash_laws.proofs.Bounding.{bounded-f}
-use Rattle.clash_laws.proofs.LeastF.{f-most, part-crowded, part-reached}
+use Rattle.check_laws.proofs.Bounding.{bounded-f}
+use Rattle.check_laws.proofs.LeastF.{f-most, part-crowded, part-reached}
 use borrow.Author.Needs.{needs}
 use Rattle.search.proofs.fraction.asked_code.Statement.{statement}
 use Rattle.search.proofs.fraction.asked_code.Tie as tie

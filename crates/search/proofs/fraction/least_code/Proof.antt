@@ -1,13 +1,13 @@
 -- `search::fraction::least_code` takes the least over the zeros at the end. Invariant: the best is that of fewer than k zeros.
 use Rattle.rules.specs.Stretch.{table}
-use Rattle.clash_laws.specs.Read.{joinedIn}
-use Rattle.clash_laws.specs.Bounded.{bounded}
+use Rattle.check_laws.specs.Read.{joinedIn}
+use Rattle.check_laws.specs.Bounded.{bounded}
 use native.Mathlib.Omega.{arith}
 use Prim.Native.Nat.{_≤_, _-_}
 use mathlib.Core.Path.{_≡_}
 use Rattle.number.specs.Limits.{maxPlaces}
-use Rattle.clash_laws.specs.Fast.{partCode}
-use Rattle.clash_laws.proofs.Placing.{part-start, part-more, part-stop, part-end}
+use Rattle.check_laws.specs.Fast.{partCode}
+use Rattle.check_laws.proofs.Placing.{part-start, part-more, part-stop, part-end}
 use borrow.Author.Needs.{needs}
 use Rattle.search.proofs.fraction.least_code.Statement.{statement}
 use Rattle.search.proofs.fraction.least_code.Tie as tie

@@ -1,10 +1,10 @@
 -- `search::fraction::least_f` is a search that asks f only.
 use Rattle.rules.specs.Stretch.{table}
-use Rattle.clash_laws.specs.Read.{joinedIn}
+use Rattle.check_laws.specs.Read.{joinedIn}
 use mathlib.Core.Path.{_∙_}
 use native.Mathlib.Omega.{arith}
-use Rattle.clash_laws.proofs.LeastF.{f-is}
-use Rattle.clash_laws.proofs.Readying.{f-ready}
+use Rattle.check_laws.proofs.LeastF.{f-is}
+use Rattle.check_laws.proofs.Readying.{f-ready}
 use borrow.Author.Needs.{needs}
 use Rattle.search.proofs.fraction.least_f.Statement.{statement}
 use Rattle.search.proofs.fraction.least_f.Tie as tie

@@ -1,11 +1,11 @@
 -- `search::fraction::part_code`: no t, or the least over the zeros at the end, by whether f is asked.
 use Rattle.rules.specs.Stretch.{table}
-use Rattle.clash_laws.specs.Read.{joinedIn}
-use Rattle.clash_laws.specs.Bounded.{bounded}
+use Rattle.check_laws.specs.Read.{joinedIn}
+use Rattle.check_laws.specs.Bounded.{bounded}
 use mathlib.Core.Path.{sym, _∙_}
-use Rattle.clash_laws.proofs.Bounding.{bounded-alone}
-use Rattle.clash_laws.proofs.Placing.{part-none}
-use Rattle.clash_laws.proofs.Profiles.{profile-settled}
+use Rattle.check_laws.proofs.Bounding.{bounded-alone}
+use Rattle.check_laws.proofs.Placing.{part-none}
+use Rattle.check_laws.proofs.Profiles.{profile-settled}
 use borrow.Author.Needs.{needs}
 use Rattle.search.proofs.fraction.part_code.Statement.{statement}
 use Rattle.search.proofs.fraction.part_code.Tie as tie

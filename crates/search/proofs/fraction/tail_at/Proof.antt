@@ -1,10 +1,10 @@
 -- `search::fraction::tail_at` takes the t that is known where f is not asked, and else searches.
 use Rattle.rules.specs.Stretch.{table}
-use Rattle.clash_laws.specs.Read.{joinedIn}
+use Rattle.check_laws.specs.Read.{joinedIn}
 use mathlib.Core.Path.{refl, sym, _∙_}
 use borrow.Author.Tests.{not-true}
-use Rattle.clash_laws.specs.Fast.{asksOf}
-use Rattle.clash_laws.proofs.Placing.{tail-once}
+use Rattle.check_laws.specs.Fast.{asksOf}
+use Rattle.check_laws.proofs.Placing.{tail-once}
 use borrow.Author.Needs.{needs}
 use Rattle.search.proofs.fraction.tail_at.Statement.{statement}
 use Rattle.search.proofs.fraction.tail_at.Tie as tie

@@ -2,10 +2,10 @@
 use mathlib.Core.Path.{_∙_}
 use native.Mathlib.Omega.{arith}
 use Rattle.rules.specs.Stretch.{table}
-use Rattle.clash_laws.specs.Bounded.{bounded}
-use Rattle.clash_laws.specs.Read.{joinedIn}
-use Rattle.clash_laws.proofs.Bounding.{bounded-tail}
-use Rattle.clash_laws.proofs.Placing.{tail-unsettled, tail-none, tail-some, tail-room}
+use Rattle.check_laws.specs.Bounded.{bounded}
+use Rattle.check_laws.specs.Read.{joinedIn}
+use Rattle.check_laws.proofs.Bounding.{bounded-tail}
+use Rattle.check_laws.proofs.Placing.{tail-unsettled, tail-none, tail-some, tail-room}
 use borrow.Author.Needs.{needs}
 use Rattle.search.proofs.fraction.tail_code.Statement.{statement}
 use Rattle.search.proofs.fraction.tail_code.Tie as tie

@@ -1,10 +1,10 @@
 -- `search::fraction::tail_of` is a search with the factor 10 ^ k for f.
 use mathlib.Core.Path.{_∙_}
 use Rattle.rules.specs.Stretch.{table}
-use Rattle.clash_laws.specs.Read.{joinedIn}
-use Rattle.clash_laws.proofs.Flooring.{below-alone, below-tail}
-use Rattle.clash_laws.proofs.Placing.{tail-is}
-use Rattle.clash_laws.proofs.Readying.{tail-ready}
+use Rattle.check_laws.specs.Read.{joinedIn}
+use Rattle.check_laws.proofs.Flooring.{below-alone, below-tail}
+use Rattle.check_laws.proofs.Placing.{tail-is}
+use Rattle.check_laws.proofs.Readying.{tail-ready}
 use borrow.Author.Needs.{needs}
 use Rattle.search.proofs.fraction.tail_of.Statement.{statement}
 use Rattle.search.proofs.fraction.tail_of.Tie as tie

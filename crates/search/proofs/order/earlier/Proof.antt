@@ -1,6 +1,6 @@
 -- `search::order::earlier` takes the lesser rank.
-use Rattle.clash_laws.specs.Spots.{spotRank}
-use Rattle.clash_laws.proofs.Spotting.{first-least, second-least}
+use Rattle.check_laws.specs.Spots.{spotRank}
+use Rattle.check_laws.proofs.Spotting.{first-least, second-least}
 use borrow.Author.Needs.{needs}
 use Rattle.search.proofs.order.earlier.Statement.{statement}
 use Rattle.search.proofs.order.earlier.Tie as tie

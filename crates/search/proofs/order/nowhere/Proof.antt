@@ -1,5 +1,5 @@
 -- `search::order::nowhere` has the rank past all.
-use Rattle.clash_laws.proofs.Spotting.{nowhere-rank, nowhere-proper}
+use Rattle.check_laws.proofs.Spotting.{nowhere-rank, nowhere-proper}
 use Rattle.search.proofs.order.nowhere.Statement.{statement}
 use Rattle.search.proofs.order.nowhere.Tie as tie
 

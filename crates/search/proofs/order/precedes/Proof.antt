@@ -1,5 +1,5 @@
 -- `search::order::precedes` compares digit by digit.
-use Rattle.clash_laws.proofs.Spotting.{order-e, order-v, order-i, order-f}
+use Rattle.check_laws.proofs.Spotting.{order-e, order-v, order-i, order-f}
 use borrow.Author.Needs.{needs}
 use Rattle.search.proofs.order.precedes.Statement.{statement}
 use Rattle.search.proofs.order.precedes.Tie as tie

@@ -3,7 +3,7 @@ use mathlib.Core.Path.{ap}
 use Prim.Native.Nat.{ℕ}
 use lib.Dec.{ltb}
 use borrow.Author.Tests.{not-true, not-false}
-use Rattle.clash_laws.proofs.Placing.{both-no, both-yes}
+use Rattle.check_laws.proofs.Placing.{both-no, both-yes}
 use borrow.Author.Needs.{needs}
 use Rattle.search.proofs.places.has_room.Statement.{statement}
 use Rattle.search.proofs.places.has_room.Tie as tie

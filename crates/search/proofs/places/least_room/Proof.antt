@@ -6,9 +6,9 @@ use native.Mathlib.Omega.{arith}
 use lib.Dec.{ltb}
 use Rattle.decimal.specs.Choice.{both}
 use Rattle.number.specs.Limits.{maxPlaces}
-use Rattle.clash_laws.specs.Profile.{marked}
-use Rattle.clash_laws.proofs.LeastF.{room-is}
-use Rattle.clash_laws.proofs.Placing.{Before, before-start, before-more, seek-at, seek-none}
+use Rattle.check_laws.specs.Profile.{marked}
+use Rattle.check_laws.proofs.LeastF.{room-is}
+use Rattle.check_laws.proofs.Placing.{Before, before-start, before-more, seek-at, seek-none}
 use borrow.Author.Needs.{needs}
 use Rattle.search.proofs.places.least_room.Statement.{statement}
 use Rattle.search.proofs.places.least_room.Tie as tie

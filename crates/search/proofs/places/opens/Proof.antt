@@ -5,9 +5,9 @@ use mathlib.Core.Logic.{⊎-elim}
 use Prim.Native.Nat.{ℕ, _-_, _/_, _^_, _≤_, _<_}
 use native.Mathlib.Omega.{arith}
 use borrow.Author.Tests.{eqb-true, not-false}
-use Rattle.least.proofs.Seeking.{split}
-use Rattle.clash_laws.specs.Profile.{marked}
-use Rattle.clash_laws.proofs.Profiles.{profile-shut, profile-below}
+use Rattle.check_laws.proofs.Seeking.{split}
+use Rattle.check_laws.specs.Profile.{marked}
+use Rattle.check_laws.proofs.Profiles.{profile-shut, profile-below}
 use borrow.Author.Needs.{needs}
 use Rattle.search.proofs.places.opens.Statement.{statement}
 use Rattle.search.proofs.places.opens.Tie as tie

@@ -1,7 +1,7 @@
 -- `search::places::settled_at` is one bit and then the other.
 use mathlib.Core.Path.{sym, _∙_}
 use borrow.Author.Tests.{not-true, not-false}
-use Rattle.clash_laws.proofs.Profiles.{settled-no, settled-yes}
+use Rattle.check_laws.proofs.Profiles.{settled-no, settled-yes}
 use borrow.Author.Needs.{needs}
 use Rattle.search.proofs.places.settled_at.Statement.{statement}
 use Rattle.search.proofs.places.settled_at.Tie as tie

@@ -8,10 +8,10 @@ use Rattle.plural.specs.Meaning.{all}
 use Rattle.decimal.specs.Choice.{both}
 use lib.Dec.{ltb}
 use Prim.Native.Nat.{_^_}
-use Rattle.clash_laws.specs.Fast.{settledF}
+use Rattle.check_laws.specs.Fast.{settledF}
 use Rattle.rules.specs.Syntax.{Relation}
-use Rattle.clash_laws.proofs.Placing.{Before, before-start, before-more, seek-at, seek-none, places-is}
-use Rattle.clash_laws.specs.Profile.{Settled}
+use Rattle.check_laws.proofs.Placing.{Before, before-start, before-more, seek-at, seek-none, places-is}
+use Rattle.check_laws.specs.Profile.{Settled}
 use borrow.Author.Needs.{needs}
 use Rattle.search.proofs.places.tail_places.Statement.{statement}
 use Rattle.search.proofs.places.tail_places.Tie as tie

@@ -1,8 +1,8 @@
 -- `search::places::whole_code`: there is such a v only where f may be 0.
 use native.Mathlib.Omega.{arith}
 use borrow.Author.Tests.{not-true, not-false}
-use Rattle.clash_laws.proofs.Placing.{whole-none, whole-some}
-use Rattle.clash_laws.proofs.Profiles.{profile-settled}
+use Rattle.check_laws.proofs.Placing.{whole-none, whole-some}
+use Rattle.check_laws.proofs.Profiles.{profile-settled}
 use borrow.Author.Needs.{needs}
 use Rattle.search.proofs.places.whole_code.Statement.{statement}
 use Rattle.search.proofs.places.whole_code.Tie as tie
