@@ -33,7 +33,7 @@ pub fn least_from<'a>(
     if hi <= from {
         return hi;
     }
-    next_table::least_number(columns, low, high, s, q, from, hi)
+    check_least::least_number(columns, low, high, s, q, from, hi)
 }
 
 // A floor of i, or past every i where no last digit is left.
