@@ -9,19 +9,19 @@ ghost use Rattle.check_laws.specs.Fast.{ends, passesAll};
 ghost use Rattle.check_laws.specs.Levels.{own, below, levelled, levels, window};
 ghost use Rattle.check_laws.specs.Read.{cap, joinedIn};
 ghost use Rattle.check_laws.specs.Ready.{Fit, Room};
-ghost use Rattle.runs.specs.Kept.{sizeOf, Told};
+ghost use Rattle.check_runs.specs.Kept.{sizeOf, Told};
 ghost use Rattle.check_next.specs.Table.{Laid, Tabled};
 use check_laws::Query;
 use check_laws::Span;
+use check_runs::clause::clause_run;
+use check_runs::clause::ends_of;
+use check_runs::clause::passes_at;
+use check_runs::clause::size_of;
+use check_runs::marks::list_level;
+use check_runs::marks::mark_levels;
 use check_table::Built;
 use check_table::find;
 use check_table::level;
-use runs::clause::clause_run;
-use runs::clause::ends_of;
-use runs::clause::passes_at;
-use runs::clause::size_of;
-use runs::marks::list_level;
-use runs::marks::mark_levels;
 
 // How many relations of a clause have room for what is kept of each.
 const RELATIONS: usize = 16;

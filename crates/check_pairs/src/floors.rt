@@ -11,7 +11,6 @@ use check_laws::Floors;
 use check_laws::Span;
 use decimal::num::greater;
 use rules::from_at;
-use search::order;
 
 // A clause with more ranges is long: a shorter one is searched as quickly as its floors are found.
 const LONG: usize = 24;

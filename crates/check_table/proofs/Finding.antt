@@ -11,8 +11,8 @@ use lib.ListN.{getD, replicate}
 use Rattle.rules.specs.Stretch.{Table}
 use Rattle.check_laws.specs.declared.Query.{Query}
 use Rattle.check_laws.specs.declared.Span.{Span}
-use Rattle.runs.specs.Kept.{Kept}
-use Rattle.runs.proofs.Keeping.{kept-none}
+use Rattle.check_runs.specs.Kept.{Kept}
+use Rattle.check_runs.proofs.Keeping.{kept-none}
 use Rattle.check_table.specs.Building.{Looked, Opens}
 
 module _ {P Q : ℕ → Bool} {p end : ℕ} where

@@ -5,15 +5,15 @@ ghost use Rattle.rules.specs.Stretch.{table};
 ghost use Rattle.check_laws.specs.Levels.{own, below};
 ghost use Rattle.check_laws.specs.Read.{joinedIn};
 ghost use Rattle.check_laws.specs.Ready.{Fit, Room};
-ghost use Rattle.runs.specs.Kept.{sizeOf, Kept, Listed};
+ghost use Rattle.check_runs.specs.Kept.{sizeOf, Kept, Listed};
 ghost use Rattle.check_next.specs.Table.{Laid, Tabled};
 ghost use Rattle.check_table.specs.Building.{Looked, Opens};
 use crate::Found;
 use check_laws::Query;
 use check_laws::Span;
 use check_next::next;
+use check_runs::clause::clause_run;
 use decimal::num::lesser;
-use runs::clause::clause_run;
 
 // Looks at the run of p. Where the relations of the level do not hold, its end is where to go on; where
 // they do, the next number of the levels below j is: it is found where it lies in the run.

@@ -7,15 +7,15 @@ ghost use Rattle.rules.specs.Stretch.{table};
 ghost use Rattle.check_laws.specs.Levels.{own, below};
 ghost use Rattle.check_laws.specs.Read.{joinedIn};
 ghost use Rattle.check_laws.specs.Ready.{Fit};
-ghost use Rattle.runs.specs.Kept.{sizeOf, Told};
+ghost use Rattle.check_runs.specs.Kept.{sizeOf, Told};
 ghost use Rattle.check_next.specs.Table.{segmentsIn, Laid, Tabled};
 ghost use Rattle.check_table.specs.Building.{Covers, BuiltAs};
 use crate::Built;
 use crate::find;
 use check_laws::Query;
 use check_laws::Span;
-use runs::clause::size_of;
-use runs::marks::list_level;
+use check_runs::clause::size_of;
+use check_runs::marks::list_level;
 
 // How many segments a table has room for.
 const ROOM: usize = 288;

@@ -18,8 +18,8 @@ use Rattle.check_laws.proofs.Seeking.{split, and-true, or-true-left, or-true-ri
 use Rattle.check_laws.specs.Profile.{valuesOf, round, reaches, spares, endsIn}
 use Rattle.check_laws.proofs.Bits.{bits-and, bits-or}
 use Rattle.check_laws.proofs.Searched.{both-held}
-use Rattle.runs.proofs.Sweeping.{any-snoc}
-use Rattle.runs.proofs.Keeping.{all-snoc}
+use Rattle.check_relation.proofs.Sweeping.{any-snoc}
+use Rattle.check_relation.proofs.Sweeping.{all-snoc}
 
 -- ---- digits in a row
 

@@ -9,9 +9,9 @@ ghost use Rattle.check_laws.specs.Bounded.{fromTo};
 ghost use Rattle.check_laws.specs.Fast.{test};
 ghost use Rattle.check_laws.specs.Profile.{valuesOf};
 use check_laws::Bounds;
+use check_relation::relation::holds_of;
 use decimal::Places;
 use rules::Single;
-use runs::relation::holds_of;
 
 const EXPONENTS: u64 = 15;
 

@@ -1,7 +1,7 @@
 -- `check_least::search::by_table` finds the least number of the window that passes the levels: all that the clause asks.
 use native.Mathlib.Omega.{arith}
 use lib.ListN.{length-replicate}
-use Rattle.runs.proofs.Keeping.{gathered-listed}
+use Rattle.check_runs.proofs.Keeping.{gathered-listed}
 use Prim.Native.Nat.{ℕ}
 use Rattle.rules.specs.Stretch.{table}
 use Rattle.check_laws.specs.Read.{joinedIn}

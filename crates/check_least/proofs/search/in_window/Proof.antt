@@ -1,14 +1,14 @@
 -- `check_least::search::in_window` goes from run to run. Invariant: none before p passes; the runs kept are right.
 use native.Mathlib.Omega.{arith}
 use lib.ListN.{length-replicate}
-use Rattle.runs.proofs.Keeping.{gathered-listed}
+use Rattle.check_runs.proofs.Keeping.{gathered-listed}
 use Prim.Native.Nat.{ℕ, _-_}
 use mathlib.Core.Path.{_∙_}
 use Rattle.rules.specs.Stretch.{table}
 use Rattle.check_laws.specs.Read.{joinedIn}
 use Rattle.check_laws.specs.Levels.{own, window}
 use Rattle.check_laws.proofs.Searched.{room-le}
-use Rattle.runs.specs.Kept.{Kept}
+use Rattle.check_runs.specs.Kept.{Kept}
 use Rattle.check_table.proofs.Finding.{kept-fresh}
 use Rattle.check_least.proofs.Searching.{Passed, passed-start, passed-more, passed-hit, passed-end}
 use borrow.Author.Needs.{needs}

@@ -4,7 +4,7 @@ use Prim.Native.Nat.{_≤_, _-_}
 use Rattle.rules.specs.Stretch.{table}
 use Rattle.check_laws.specs.Levels.{own, below}
 use Rattle.check_laws.specs.Read.{joinedIn}
-use Rattle.runs.specs.Kept.{Kept}
+use Rattle.check_runs.specs.Kept.{Kept}
 use Rattle.check_table.proofs.Finding.{NoneTo, none-to, opens-found, opens-none}
 use Rattle.check_table.proofs.find.find.Statement.{statement}
 use Rattle.check_table.proofs.find.find.Tie as tie

@@ -1,13 +1,13 @@
 -- `check_table::level::fill_level` stores the segments that it finds. Invariant: they cover the numbers below p, and the levels below stand.
 use native.Mathlib.Omega.{arith}
 use lib.ListN.{length-replicate}
-use Rattle.runs.proofs.Keeping.{gathered-listed}
+use Rattle.check_runs.proofs.Keeping.{gathered-listed}
 use Prim.Native.Nat.{ℕ, _-_}
 use Rattle.rules.specs.Stretch.{table}
 use Rattle.check_laws.specs.Levels.{own, below}
 use Rattle.check_laws.specs.Read.{joinedIn}
 use Rattle.check_laws.proofs.Readying.{fit-room}
-use Rattle.runs.specs.Kept.{Kept}
+use Rattle.check_runs.specs.Kept.{Kept}
 use Rattle.check_table.proofs.Finding.{kept-fresh}
 use Rattle.check_table.proofs.Building.{Filling, filling-start, filling-more, filling-done, filling-all, level-small}
 use borrow.Author.Needs.{needs}
