@@ -19,7 +19,7 @@ fn profile_of<'a>(
 {
     let from = joined::relations_start(relations, j);
     let to = joined::relations_stop(relations, j);
-    profile::clause_profile(columns, low, high, from, to)
+    check_profile::clause_profile(columns, low, high, from, to)
 }
 
 // Lent as a slice the array has the length that it is declared with.

@@ -102,7 +102,7 @@ fn part_spot<'a>(
     requires { ⌜ p ≡ profileOf (bounded b (joinedIn (table (now columns) (now low) (now high)) s)) ⌝ }
     ensures { λ r. ⌜ (spotRank r ≡ kindSpot false e (bounded b (joinedIn (table (now (columns .entry)) (now (low .entry)) (now (high .entry))) s))) × Proper r ⌝ }
 {
-    if !places::opens(profile::v_of(p), profile::w_of(p)) {
+    if !places::opens(check_profile::v_of(p), check_profile::w_of(p)) {
         return order::nowhere();
     }
     if limits::FRACTION_LIMIT <= l.tail {
@@ -125,7 +125,7 @@ fn comes_first(p: u64, q: u64, i: u64) -> bool
     requires { ⌜ q < fractions ⌝ }
     ensures { λ r. ⌜ (r ≡ true → (c : List Relation) (e : ℕ) → p ≡ profileOf c → e ≤ maxExponent → q ≡ fractionCode true c → i ≡ integerOf true e c → kindRank true e c ≤ kindRank false e c) ⌝ }
 {
-    if profile::spares_n(p) {
+    if check_profile::spares_n(p) {
         return true;
     }
     if q == 0 {
@@ -176,7 +176,7 @@ pub fn clause_spot<'a>(
     requires { ⌜ p ≡ profileOf (bounded b (joinedIn (table (now columns) (now low) (now high)) s)) ⌝ }
     ensures { λ r. ⌜ (spotRank r ≡ clauseRank (bounded b (joinedIn (table (now (columns .entry)) (now (low .entry)) (now (high .entry))) s))) × Proper r ⌝ }
 {
-    let e = profile::exponent_of(p);
+    let e = check_profile::exponent_of(p);
     if limits::MAX_EXPONENT < e {
         return order::nowhere();
     }

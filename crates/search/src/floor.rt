@@ -50,8 +50,8 @@ fn by_digits(digits: u64, floor: u64) -> u64
 pub fn raise(p: u64, l: Floors) -> Floors
     ensures { λ r. ⌜ r ≡ raised p l ⌝ }
 {
-    let whole = by_digits(profile::whole_digits(p), l.whole);
-    let part = by_digits(profile::part_digits(p), l.part);
+    let whole = by_digits(check_profile::whole_digits(p), l.whole);
+    let part = by_digits(check_profile::part_digits(p), l.part);
     Floors {
         whole: whole,
         part: part,

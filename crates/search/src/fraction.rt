@@ -232,9 +232,9 @@ pub fn part_code<'a>(
     if limits::FRACTION_LIMIT <= t {
         return limits::FRACTIONS;
     }
-    let vs = profile::v_of(p);
-    let ws = profile::w_of(p);
-    if profile::spares_f(p) {
+    let vs = check_profile::v_of(p);
+    let ws = check_profile::w_of(p);
+    if check_profile::spares_f(p) {
         return least_code(columns, low, high, s, b, vs, ws, t, true);
     }
     asked_code(columns, low, high, s, b, vs, ws, t)

@@ -51,7 +51,7 @@ pub fn least_admitted<'a>(
         high,
         s,
         b,
-        profile::within(p, b),
+        check_profile::within(p, b),
         floor::raise(p, l),
     )
 }

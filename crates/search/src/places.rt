@@ -65,10 +65,10 @@ fn whole_places(vs: u64, ws: u64) -> u64
 pub fn whole_code(p: u64) -> u64
     ensures { λ r. ⌜ ((c : List Relation) → p ≡ profileOf c → r ≡ wholeCode c) ⌝ }
 {
-    if !profile::allows_zero(p) {
+    if !check_profile::allows_zero(p) {
         return limits::FRACTIONS;
     }
-    let v = whole_places(profile::v_of(p), profile::w_of(p));
+    let v = whole_places(check_profile::v_of(p), check_profile::w_of(p));
     v * limits::FRACTION_LIMIT
 }
 
