@@ -16,8 +16,8 @@ use crate::joined;
 use answer::Pair;
 use answer::Witness;
 use check_laws::Checked;
-use search::limits;
-use search::order;
+use check_places::limits;
+use check_places::order;
 
 // The first of the rules behind the rule p, below n, that clashes with it; n where none does.
 pub fn later_clash<'a>(

@@ -57,7 +57,7 @@ fn clause_floors<'a>(
         start: 0,
         stop: 0,
     };
-    search::floors_of(columns, low, high, s)
+    check_search::floors_of(columns, low, high, s)
 }
 
 fn higher(floors: &[u64; 40], k: usize, l: usize) -> u64

@@ -14,10 +14,10 @@ use crate::floors;
 use answer::Witness;
 use check_laws::Bounds;
 use check_laws::Span;
+use check_places::limits;
+use check_places::order;
 use decimal::Places;
 use decimal::num::further;
-use search::limits;
-use search::order;
 
 const RELATION_ROOM: usize = 320;
 
@@ -112,7 +112,7 @@ fn joined_spot<'a>(
     };
     let p = profiles[k] & profiles[l];
     let floors = floors::pair_floors(whole, part, tail, k, l);
-    search::least_admitted(columns, low, high, s, b, p, floors)
+    check_search::least_admitted(columns, low, high, s, b, p, floors)
 }
 
 // The earliest of `best` and the least numbers of the clause k with each of those from place `from` to before `to`.
