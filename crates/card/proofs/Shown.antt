@@ -1,5 +1,5 @@
 -- Every row of the card is right, by computation from the definitions; what the check says of the rules that are read of a pack is proved from the definition of the
--- check (clash_laws/proofs/Rows.antt).
+-- check (check_laws/proofs/Rows.antt).
 use mathlib.Core.Path.{_≡_, refl}
 use mathlib.Core.List.{List, [], _∷_}
 use Prim.Native.Nat.{ℕ}

@@ -1,8 +1,8 @@
 // The pack check: the first two rules that one admitted number meets, with the least such number.
 //
-// Crate clash_laws has the definition and its laws; crate search finds the least number of two clauses
-// joined. Below the entry the pack's arrays are lent one by one, with its clauses' profiles and
-// the floors of its long ones.
+// Crate check_laws has the definition and its laws; crate check_search finds the least number of two
+// clauses joined. Below the entry the pack's arrays are lent one by one, with its clauses' profiles and
+// the floors of its long ones. The entry is check.
 mod first;
 mod floors;
 mod joined;
