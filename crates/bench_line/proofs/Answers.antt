@@ -23,8 +23,8 @@ use Rattle.print.specs.declared.Printed.{Printed}
 use Rattle.print.specs.declared.Printed.the-variants.{Text, Refused as PrintRefused}
 use Rattle.decimal.proofs.Choices.{tested, never}
 use Rattle.select.specs.Select.{selectOf}
-use Rattle.pack_check.specs.Check.{checkPack}
-use Rattle.pack_check.specs.declared.PackCheck.{PackCheck}
+use Rattle.check_text.specs.Check.{checkPack}
+use Rattle.check_text.specs.declared.PackCheck.{PackCheck}
 
 -- the figures that are left: one and the rest, or none
 pub spaced-next : (vs : List ℕ) (n k : ℕ) → k < n → k < length vs

@@ -18,9 +18,9 @@ use Rattle.answer.specs.declared.PrintRow.the-variants.{AreaTooShort}
 use Rattle.print.specs.Outcome.{Outcome, outcome}
 use Rattle.print.specs.Outcome.Outcome.{text, refused}
 use Rattle.select.specs.Select.{selectOf}
-use Rattle.pack_check.specs.Check.{checkPack}
-use Rattle.pack_check.specs.declared.PackCheck.{PackCheck}
-use Rattle.pack_check.specs.declared.PackCheck.the-variants.{Passes, Refused as PackRefused}
+use Rattle.check_text.specs.Check.{checkPack}
+use Rattle.check_text.specs.declared.PackCheck.{PackCheck}
+use Rattle.check_text.specs.declared.PackCheck.the-variants.{Passes, Refused as PackRefused}
 use Rattle.line.specs.Cuts.{maxLine}
 use Rattle.line.specs.Jobs.{Job, jobOf}
 use Rattle.line.specs.Jobs.Job.{select, check, format, none}

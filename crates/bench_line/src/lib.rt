@@ -14,11 +14,11 @@ use answer::FigureList;
 use answer::Keyword;
 use answer::MAX_FIGURES;
 use answer::Refusal;
+use check_text::PackCheck;
 use decimal::num::wide_byte;
 use line::JobCut;
 use line::MAX_LINE;
 use line::read_job;
-use pack_check::PackCheck;
 use plural::Selection;
 use print::Printed;
 
@@ -132,7 +132,7 @@ fn append_job(out: &mut [u8], at: usize, line: &[u8]) -> usize
                 decimal::cut::after(decimal::cut::after(fields, n), 1),
             ),
         ),
-        JobCut::CheckAt => append_check(out, at, pack_check::check(fields)),
+        JobCut::CheckAt => append_check(out, at, check_text::check(fields)),
         JobCut::FormatAt(n) => append_format(
             out,
             at,

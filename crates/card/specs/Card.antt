@@ -12,8 +12,8 @@ use Rattle.plural.specs.declared.Selection.{Selection}
 use Rattle.plural.specs.declared.Selection.the-variants.{Word}
 use Rattle.answer.specs.declared.Refusal.the-variants.{Rules as OfRules}
 use Rattle.answer.specs.declared.RulesRow.the-variants.{RulesClash}
-use Rattle.pack_check.specs.Check.{checkPack}
-use Rattle.pack_check.specs.declared.PackCheck.the-variants.{Passes, Refused}
+use Rattle.check_text.specs.Check.{checkPack}
+use Rattle.check_text.specs.declared.PackCheck.the-variants.{Passes, Refused}
 use Rattle.select.specs.Select.{selectOf}
 use Rattle.print.specs.Outcome.{outcome}
 use Rattle.print.specs.Outcome.Outcome.{text}

@@ -21,7 +21,7 @@ use Rattle.plural.specs.Words.MeetsAt.{here, there}
 use Rattle.plural.specs.declared.Selection.{Selection}
 use Rattle.plural.specs.declared.Selection.the-variants.{Word}
 use Rattle.plural.proofs.Chosen.{counted, behind-counted, first-le, first-meets, second-meets}
-use Rattle.clash_laws.specs.Claims.{ruleAt}
+use Rattle.check_laws.specs.Claims.{ruleAt}
 
 -- how many rules are met
 abbrev pub met : List Rule → Number → ℕ

@@ -1,6 +1,6 @@
 -- Demand 3: "The pack check passes exactly when no admitted number meets two rules; otherwise it names the first pair and the least number. Shuffling
 -- a passed pack changes no answer; adding rules changes only words that were "other"." Stated on bytes, over the definitions that the contracts of
--- `pack_check::check` and `select::select` cite.
+-- `check_text::check` and `select::select` cite.
 use mathlib.Core.Path.{_≡_, refl, sym, ap, _∙_, subst}
 use mathlib.Core.Bool.{Bool, true, false}
 use mathlib.Core.List.{List, [], _∷_, _++_, map, List·Permᴰ}
@@ -35,14 +35,14 @@ use Rattle.plural.specs.Words.{MeetsAt}
 use Rattle.plural.specs.declared.Selection.{Selection}
 use Rattle.plural.specs.declared.Selection.the-variants.{Word}
 use Rattle.plural.proofs.Chosen.{counted, behind-counted, first-le, first-meets, second-meets, met-sign}
-use Rattle.clash_laws.specs.Check.{numberAt, checkOf}
-use Rattle.clash_laws.specs.Claims.{IsAdmitted, MeetsBoth, Apart, ruleAt, AllApart, Lowest, Claims}
-use Rattle.clash_laws.specs.declared.Checked.{Checked}
-use Rattle.clash_laws.specs.declared.Checked.the-variants.{Passes as RulesPass, Clashes}
-use Rattle.clash_laws.proofs.Claimed.{check-claims, passes-apart, apart-passes}
-use Rattle.pack_check.specs.Check.{checkedBy, checkRules, checkPack}
-use Rattle.pack_check.specs.declared.PackCheck.{PackCheck}
-use Rattle.pack_check.specs.declared.PackCheck.the-variants.{Passes, Refused}
+use Rattle.check_laws.specs.Check.{numberAt, checkOf}
+use Rattle.check_laws.specs.Claims.{IsAdmitted, MeetsBoth, Apart, ruleAt, AllApart, Lowest, Claims}
+use Rattle.check_laws.specs.declared.Checked.{Checked}
+use Rattle.check_laws.specs.declared.Checked.the-variants.{Passes as RulesPass, Clashes}
+use Rattle.check_laws.proofs.Claimed.{check-claims, passes-apart, apart-passes}
+use Rattle.check_text.specs.Check.{checkedBy, checkRules, checkPack}
+use Rattle.check_text.specs.declared.PackCheck.{PackCheck}
+use Rattle.check_text.specs.declared.PackCheck.the-variants.{Passes, Refused}
 use Rattle.select.specs.Select.{selectNumber, selectRules, selectOf}
 use Rattle.demands.specs.Verdicts.{NumberVerdict, PackVerdict, SelectVerdict}
 use Rattle.demands.specs.Packs.{Passed, Shuffle, Larger, MeetsAdded, Grown}

@@ -36,14 +36,14 @@ use Rattle.plural.specs.declared.Selection.{Selection}
 use Rattle.plural.specs.declared.Selection.the-variants.{Refused as SelectionRefused}
 use Rattle.plural.proofs.Chosen.{told, only-told}
 use Rattle.select.specs.Select.{selectNumber, selectRules, selectOf}
-use Rattle.clash_laws.specs.Check.{checkOf}
-use Rattle.clash_laws.specs.Claims.{AllApart, Before, Claims, Lowest}
-use Rattle.clash_laws.specs.declared.Checked.{Checked}
-use Rattle.clash_laws.specs.declared.Checked.the-variants.{Passes as RulesPass, Clashes}
-use Rattle.clash_laws.proofs.Claimed.{check-claims, apart-passes}
-use Rattle.pack_check.specs.Check.{checkedBy, checkRules, checkPack}
-use Rattle.pack_check.specs.declared.PackCheck.{PackCheck}
-use Rattle.pack_check.specs.declared.PackCheck.the-variants.{Passes, Refused as CheckRefused}
+use Rattle.check_laws.specs.Check.{checkOf}
+use Rattle.check_laws.specs.Claims.{AllApart, Before, Claims, Lowest}
+use Rattle.check_laws.specs.declared.Checked.{Checked}
+use Rattle.check_laws.specs.declared.Checked.the-variants.{Passes as RulesPass, Clashes}
+use Rattle.check_laws.proofs.Claimed.{check-claims, apart-passes}
+use Rattle.check_text.specs.Check.{checkedBy, checkRules, checkPack}
+use Rattle.check_text.specs.declared.PackCheck.{PackCheck}
+use Rattle.check_text.specs.declared.PackCheck.the-variants.{Passes, Refused as CheckRefused}
 use Rattle.symbols.specs.declared.Symbol.{Symbol}
 use Rattle.symbols.specs.declared.Judged.the-variants.{Good, Refused as SymbolsRefused}
 use Rattle.symbols.specs.Entries.{symbolIn, standardRecord, readSymbols}

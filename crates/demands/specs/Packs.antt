@@ -12,8 +12,8 @@ use Rattle.plural.specs.Words.{MeetsAt}
 use Rattle.plural.specs.declared.Selection.{Selection}
 use Rattle.plural.specs.declared.Selection.the-variants.{Word}
 use Rattle.select.specs.Select.{selectOf}
-use Rattle.pack_check.specs.Check.{checkPack}
-use Rattle.pack_check.specs.declared.PackCheck.the-variants.{Passes}
+use Rattle.check_text.specs.Check.{checkPack}
+use Rattle.check_text.specs.declared.PackCheck.the-variants.{Passes}
 use Rattle.demands.specs.Verdicts.{NumberVerdict, SelectVerdict}
 
 -- "A passed pack is one the check doesn't refuse."

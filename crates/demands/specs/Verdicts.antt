@@ -29,9 +29,9 @@ use Rattle.grammar.specs.Falls.{Faulty, Tree}
 use Rattle.plural.specs.Words.{Chosen}
 use Rattle.plural.specs.declared.Selection.{Selection}
 use Rattle.plural.specs.declared.Selection.the-variants.{Refused as SelectionRefused}
-use Rattle.clash_laws.specs.Claims.{AllApart, Lowest}
-use Rattle.pack_check.specs.declared.PackCheck.{PackCheck}
-use Rattle.pack_check.specs.declared.PackCheck.the-variants.{Passes, Refused as CheckRefused}
+use Rattle.check_laws.specs.Claims.{AllApart, Lowest}
+use Rattle.check_text.specs.declared.PackCheck.{PackCheck}
+use Rattle.check_text.specs.declared.PackCheck.the-variants.{Passes, Refused as CheckRefused}
 use Rattle.symbols.specs.declared.Symbol.{Symbol}
 use Rattle.symbols.specs.declared.Judged.the-variants.{Good, Refused as SymbolsRefused}
 use Rattle.symbols_grammar.specs.Record.{Verdict as SymbolsVerdict, SymbolIs}

@@ -4,12 +4,12 @@
 ghost use mathlib.Core.Path.{_≡_};
 ghost use Rattle.decimal.specs.Choice.{both};
 ghost use Rattle.rules.specs.Held.{heldRules, lent};
-ghost use Rattle.clash_laws.specs.Check.{checkOf};
+ghost use Rattle.check_laws.specs.Check.{checkOf};
 ghost use Rattle.engines_table.specs.Same.{samePair, sameNumber, sameClash, sameAnswer};
 use answer::Pair;
 use answer::Refusal;
 use answer::Witness;
-use clash_laws::Checked;
+use check_laws::Checked;
 use libc::STDIN_FILENO;
 use libc::STDOUT_FILENO;
 use pack::Read;
@@ -32,8 +32,8 @@ fn ask_both<'a>(
 ) -> Answers
     ensures { λ r. ⌜ (r .fast ≡ r .plain) × (r .plain ≡ checkOf (heldRules (lent (now (low .entry)) (now (high .entry)) (now (columns .entry)) (now (relations .entry)) (now (keyword .entry)) (now (clauses .entry)) count))) ⌝ }
 {
-    let fast = clash::check(columns, low, high, relations, keyword, clauses, count);
-    let plain = plain_check::check(columns, low, high, relations, keyword, clauses, count);
+    let fast = check_pairs::check(columns, low, high, relations, keyword, clauses, count);
+    let plain = check_plain::check(columns, low, high, relations, keyword, clauses, count);
     Answers {
         fast: fast,
         plain: plain,

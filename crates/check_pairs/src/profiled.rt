@@ -1,0 +1,55 @@
+// The profiles of a pack's clauses, each worked out once: they serve every pair that the clause stands in.
+ghost use mathlib.Core.Path.{_≡_};
+ghost use Prim.Native.Nat.{ℕ, _≤_, _<_};
+ghost use lib.ListN.{getD};
+ghost use Rattle.check_laws.specs.Profile.{profileOf, Profiled};
+ghost use Rattle.rules.specs.Stretch.{table, clauseAt};
+use crate::joined;
+
+// The profile of the clause j.
+fn profile_of<'a>(
+    columns: &'a [u32; 1280],
+    low: &'a [u32; 2048],
+    high: &'a [u32; 2048],
+    relations: &'a [usize; 40],
+    j: usize,
+) -> u64
+    requires { ⌜ j < 40 ⌝ }
+    ensures { λ r. ⌜ r ≡ profileOf (clauseAt (table (now (columns .entry)) (now (low .entry)) (now (high .entry))) (now (relations .entry)) j) ⌝ }
+{
+    let from = joined::relations_start(relations, j);
+    let to = joined::relations_stop(relations, j);
+    check_profile::clause_profile(columns, low, high, from, to)
+}
+
+// Lent as a slice the array has the length that it is declared with.
+fn lent(profiles: &[u64]) {}
+
+// Puts in one profile.
+fn put(profiles: &mut [u64; 40], j: usize, p: u64)
+    requires { ⌜ j < 40 ⌝ }
+    ensures { λ _. ⌜ (getD (now (profiles .exit)) j 0 ≡ p) × ((k : ℕ) → (k ≡ j → ⊥) → getD (now (profiles .exit)) k 0 ≡ getD (now (profiles .entry)) k 0) ⌝ }
+{
+    lent(profiles);
+    profiles[j] = p;
+}
+
+// Fills in the profiles of the first `to` clauses.
+pub fn fill<'a>(
+    columns: &'a [u32; 1280],
+    low: &'a [u32; 2048],
+    high: &'a [u32; 2048],
+    relations: &'a [usize; 40],
+    profiles: &mut [u64; 40],
+    to: usize,
+)
+    requires { ⌜ to ≤ 40 ⌝ }
+    ensures { λ _. ⌜ Profiled (table (now (columns .entry)) (now (low .entry)) (now (high .entry))) (now (relations .entry)) (now (profiles .exit)) to ⌝ }
+{
+    let mut j: usize = 0;
+    while j < to {
+        let p = profile_of(columns, low, high, relations, j);
+        put(profiles, j, p);
+        j += 1;
+    }
+}

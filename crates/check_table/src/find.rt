@@ -1,0 +1,112 @@
+// The least number that the relations of one level allow and that passes the levels below it.
+ghost use mathlib.Core.Path.{_≡_};
+ghost use Prim.Native.Nat.{_≤_, _<_, min};
+ghost use Rattle.rules.specs.Stretch.{table};
+ghost use Rattle.check_laws.specs.Levels.{own, below};
+ghost use Rattle.check_laws.specs.Read.{joinedIn};
+ghost use Rattle.check_laws.specs.Ready.{Fit, Room};
+ghost use Rattle.check_runs.specs.Kept.{sizeOf, Kept, Listed};
+ghost use Rattle.check_next.specs.Table.{Laid, Tabled};
+ghost use Rattle.check_table.specs.Building.{Looked, Opens};
+use crate::Found;
+use check_laws::Query;
+use check_laws::Span;
+use check_next::next;
+use check_runs::clause::clause_run;
+use decimal::num::lesser;
+
+// Looks at the run of p. Where the relations of the level do not hold, its end is where to go on; where
+// they do, the next number of the levels below j is: it is found where it lies in the run.
+fn look<'a>(
+    columns: &'a [u32; 1280],
+    low: &'a [u32; 2048],
+    high: &'a [u32; 2048],
+    s: Span,
+    q: Query,
+    list: &[usize; 16],
+    count: usize,
+    level: usize,
+    starts: &[u32; 288],
+    ends: &[u32; 288],
+    at: &[usize; 8],
+    j: usize,
+    p: u64,
+    end: u64,
+    says: &mut [bool; 16],
+    stop: &mut [u64; 16],
+) -> Found
+    requires { ⌜ Fit q × Room q end × (p < end) × (s .to ≤ 320) × (s .stop ≤ 320) × (sizeOf s ≤ 16) × Listed (table (now columns) (now low) (now high)) s q level (now list) count ⌝ }
+    requires { ⌜ Laid (now starts) (now ends) (now at) j ⌝ }
+    requires { ⌜ Tabled (below q (joinedIn (table (now columns) (now low) (now high)) s)) (now starts) (now ends) (now at) j ⌝ }
+    requires { ⌜ Kept (table (now columns) (now low) (now high)) s q level p (now says) (now stop) ⌝ }
+    ensures { λ r. ⌜ Looked (own q (joinedIn (table (now (columns .entry)) (now (low .entry)) (now (high .entry))) s) level) (below q (joinedIn (table (now (columns .entry)) (now (low .entry)) (now (high .entry))) s) j) p end (r .at) (r .stop) ⌝ }
+    ensures { λ _. ⌜ Kept (table (now (columns .entry)) (now (low .entry)) (now (high .entry))) s q level p (now (says .exit)) (now (stop .exit)) ⌝ }
+{
+    let run = clause_run(columns, low, high, s, q, list, count, level, p, says, stop);
+    if run.says {
+        return Found {
+            at: next(starts, ends, at, j, p),
+            stop: lesser(run.stop, end),
+        };
+    }
+    Found {
+        at: run.stop,
+        stop: run.stop,
+    }
+}
+
+// The least number from `from` on and below `end` that the relations of the level allow and that passes
+// the levels below j, and up to where the relations of the level hold; or `end`, and past the numbers
+// that were looked at.
+pub fn find<'a>(
+    columns: &'a [u32; 1280],
+    low: &'a [u32; 2048],
+    high: &'a [u32; 2048],
+    s: Span,
+    q: Query,
+    list: &[usize; 16],
+    count: usize,
+    level: usize,
+    starts: &[u32; 288],
+    ends: &[u32; 288],
+    at: &[usize; 8],
+    j: usize,
+    from: u64,
+    end: u64,
+    says: &mut [bool; 16],
+    stop: &mut [u64; 16],
+) -> Found
+    requires { ⌜ Fit q × Room q end × (from ≤ end) × (s .to ≤ 320) × (s .stop ≤ 320) × (sizeOf s ≤ 16) × Listed (table (now columns) (now low) (now high)) s q level (now list) count ⌝ }
+    requires { ⌜ Laid (now starts) (now ends) (now at) j ⌝ }
+    requires { ⌜ Tabled (below q (joinedIn (table (now columns) (now low) (now high)) s)) (now starts) (now ends) (now at) j ⌝ }
+    requires { ⌜ Kept (table (now columns) (now low) (now high)) s q level from (now says) (now stop) ⌝ }
+    ensures { λ r. ⌜ Opens (own q (joinedIn (table (now (columns .entry)) (now (low .entry)) (now (high .entry))) s) level) (below q (joinedIn (table (now (columns .entry)) (now (low .entry)) (now (high .entry))) s) j) from end (r .at) (r .stop) ⌝ }
+    ensures { λ r. ⌜ Kept (table (now (columns .entry)) (now (low .entry)) (now (high .entry))) s q level (r .stop) (now (says .exit)) (now (stop .exit)) ⌝ }
+{
+    let mut p = from;
+    while p < end {
+        let f = look(
+            columns,
+            low,
+            high,
+            s,
+            q,
+            list,
+            count,
+            level,
+            starts,
+            ends,
+            at,
+            j,
+            p,
+            end,
+            says,
+            stop,
+        );
+        if f.at < f.stop {
+            return f;
+        }
+        p = f.at;
+    }
+    Found { at: end, stop: p }
+}
