@@ -9,15 +9,15 @@ use lib.Bits.{bitAnd, bitOr}
 use lib.Dec.{eqb, leb, ltb}
 use borrow.Author.Tests.{eqb-true, eq-eqb, ne-eqb, le-leb, lt-leb, lt-ltb, le-ltb}
 use Rattle.decimal.specs.Choice.{if_then_else_, both, either}
+use Rattle.decimal.specs.Lists.{all, any}
+use Rattle.decimal.proofs.Choices.{both-true}
 use Rattle.rules.specs.Syntax.{Range, Relation}
 use Rattle.rules.specs.Stretch.{stretch, rangeAt, rangesIn}
 use Rattle.rules.proofs.Stretches.{stretch-nil, stretch-snoc, stretch-same}
-use Rattle.plural.specs.Meaning.{any, all}
 use Rattle.plural.specs.Select.{maskOf}
 use Rattle.check_laws.proofs.Seeking.{split, and-true, or-true-left, or-true-right, and-false-left, and-false-right}
 use Rattle.check_laws.specs.Profile.{valuesOf, round, reaches, spares, endsIn}
 use Rattle.check_laws.proofs.Bits.{bits-and, bits-or}
-use Rattle.check_laws.proofs.Searched.{both-held}
 use Rattle.check_relation.proofs.Sweeping.{any-snoc, all-snoc}
 
 -- ---- digits in a row
@@ -35,7 +35,7 @@ below-each : (f : ℕ → Bool) (n : ℕ) → below f n ≡ true → (k : ℕ) �
 unfolding below
 below-each f zero h k l = absurd (omega arith)
 below-each f (suc n) h k l =
-    let b = both-held (f n) (below f n) h in
+    let b = both-true (f n) (below f n) h in
     ⊎-elim (λ z. below-each f n (b .1) k z) (λ z. ap f (let y : k ≡ n = omega arith in y) ∙ b .0) (split k n)
 
 right : ℕ → Bool

@@ -2,8 +2,8 @@
 ghost use mathlib.Core.Path.{_≡_};
 ghost use mathlib.Core.Bool.{not};
 ghost use Prim.Native.Nat.{ℕ, _+_, _-_, _*_, _%_, _^_, _≤_, _<_, min};
+ghost use Rattle.decimal.specs.Lists.{all, any};
 ghost use Rattle.rules.specs.Stretch.{rangesIn, relationBy};
-ghost use Rattle.plural.specs.Meaning.{any, all};
 ghost use Rattle.check_laws.specs.Profile.{valuesOf, round, reaches, spares, endsIn};
 use crate::values::with_bit;
 use decimal::num::less_by;

@@ -10,7 +10,7 @@ use lib.Dec.{ltb}
 use lib.ListN.{length}
 use borrow.Author.Tests.{ltb-true, ltb-false}
 use Rattle.decimal.specs.Choice.{if_then_else_, both}
-use Rattle.decimal.proofs.Choices.{not-both}
+use Rattle.decimal.proofs.Choices.{not-both, both-true}
 use Rattle.answer.specs.declared.Witness.{Witness}
 use Rattle.number.specs.declared.Number.{Number}
 use Rattle.rules.specs.Syntax.{Rule}
@@ -21,7 +21,6 @@ use Rattle.check_laws.specs.Check.{numberAt, rank, ranked, admits, ranks
 use Rattle.check_laws.specs.Claims.{IsAdmitted, MeetsBoth, Apart, Before, ruleAt, AllApart, Claims}
 use Rattle.check_laws.specs.declared.Checked.{Checked}
 use Rattle.check_laws.specs.declared.Checked.the-variants.{Passes, Clashes}
-use Rattle.check_laws.proofs.Searched.{both-held}
 use Rattle.check_laws.proofs.Ranks.{admitted-of, admits-of, ranked-rank, rank-lt, rank-one, rank-before}
 
 -- ---- any test: its least admitted number
@@ -47,7 +46,7 @@ module _ (P : Number → Bool) where
   pub found-passes : leastRank P < ranks → IsAdmitted (ranked (leastRank P)) × (P (numberAt (ranked (leastRank P))) ≡ true)
   unfolding found
   found-passes k =
-      let h = both-held _ _ (l .hit (omega arith)) in
+      let h = both-true _ _ (l .hit (omega arith)) in
       (admitted-of (ranked (leastRank P)) (h .0), h .1)
 
   -- and the rank of what is found is that of the search
@@ -72,7 +71,7 @@ module _ (a b : Rule) where
   hit : clashOf a b < ranks → MeetsBoth a b (ranked (clashOf a b))
   hit k =
       let h = found-passes (λ (x : Number). both (meets a x) (meets b x)) k in
-      let m = both-held _ _ (h .1) in
+      let m = both-true _ _ (h .1) in
       record { admitted = h .0; first = m .0; second = m .1 }
 
   least : clashOf a b < ranks → (y : Witness) → MeetsBoth a b y → (y ≡ ranked (clashOf a b)) ⊎ Before (ranked (clashOf a b)) y

@@ -11,12 +11,12 @@ use lib.ListN.{getD, length, set, replicate, getD-replicate, List·getD-eq-defau
 use lib.Seq.{set-out, getD-set-same, getD-set-other}
 use borrow.Author.Tests.{lt-ltb, le-ltb, ltb-false}
 use Rattle.decimal.specs.Choice.{if_then_else_, both, either}
-use Rattle.decimal.proofs.Choices.{tested, not-both}
+use Rattle.decimal.proofs.Choices.{tested, not-both, either-false}
+use Rattle.decimal.specs.Lists.{all}
 use Rattle.number.specs.Limits.{maxExponent, maxDigits, maxPlaces}
 use Rattle.rules.specs.Syntax.{Relation}
 use Rattle.rules.specs.Stretch.{Table, relationsIn, relationAt, startAt, rangesFromAt, clauseAt}
 use Rattle.rules.proofs.Stretches.{stretch-nil}
-use Rattle.plural.specs.Meaning.{all}
 use Rattle.check_laws.specs.Seek.{Least}
 use Rattle.check_laws.proofs.Seeking.{split, and-false-left, and-false-right, least-none, least-after}
 use Rattle.check_laws.specs.Check.{lowest}
@@ -198,10 +198,6 @@ long-some columns least from to a b h ea eb = rw (lt-ltb from to h) (ap₂ (λ (
 
 -- ---- where no relation asks n, i is the same whether f is 0 or not
 
-neither : (a b : Bool) → either a b ≡ false → (a ≡ false) × (b ≡ false)
-neither true b h = not-both {b = true} refl h
-neither false b h = (refl, h)
-
 one-kind : (x : ℕ) (r : Relation) → eqb (r .operand) 110 ≡ false → passes (queryI false) r x ≡ passes (queryI true) r x
 unfolding passes factor
 one-kind x r n = rw n
@@ -209,7 +205,7 @@ one-kind x r n = rw n
 pub each-kind : (x : ℕ) (c : List Relation) → asksOf 110 c ≡ false → all (λ (r : Relation). passes (queryI false) r x) c ≡ all (λ (r : Relation). passes (queryI true) r x) c
 each-kind x [] h = refl
 each-kind x (r ∷ rs) h =
-    let n = neither (eqb (r .operand) 110) (asksOf 110 rs) h in
+    let n = either-false (eqb (r .operand) 110) (asksOf 110 rs) h in
     ap₂ both (one-kind x r (n .0)) (each-kind x rs (n .1))
 
 pub tail-past : (c : List Relation) (f : ℕ) → NoneBelow alone c f → 10 ^ maxPlaces ≤ f → 10 ^ maxPlaces ≡ aloneOf c

@@ -10,17 +10,17 @@ use lib.Pow.{pow-add}
 use lib.Dec.{eqb, ltb, leb}
 use borrow.Author.Tests.{eqb-true, eqb-false, eq-eqb, ne-eqb, ltb-true, lt-ltb, leb-true, leb-false, not-true}
 use Rattle.decimal.specs.Choice.{if_then_else_, both, either}
-use Rattle.decimal.proofs.Choices.{tested, choice, not-both}
+use Rattle.decimal.proofs.Choices.{tested, choice, not-both, both-true}
 use Rattle.decimal.proofs.Values.{power-pos, power-mono}
+use Rattle.decimal.specs.Lists.{all}
 use Rattle.number.specs.Limits.{maxPlaces}
 use Rattle.number.specs.Admitted.{wOf, tOf}
 use Rattle.rules.specs.Syntax.{Relation}
-use Rattle.plural.specs.Meaning.{all}
 use Rattle.check_laws.specs.Seek.{Least, seek}
 use Rattle.check_laws.proofs.Seeking.{split, and-false-left, and-false-right, and-true, or-false, least-none, least-or, seek-least}
 use Rattle.check_laws.specs.Fast.{queryT, factor, test, passes, ends, passesAll, settledF, fractions, wholeCode, tailOf, tailPlaces, tailCode, partCode, fractionCode}
 use Rattle.check_laws.proofs.Parts.{Parts, parts, parts-w, parts-t}
-use Rattle.check_laws.proofs.Searched.{both-held, search-least}
+use Rattle.check_laws.proofs.Searched.{search-least}
 
 -- what v and w settle, and what is asked of t
 unfoldable pub fraction : ℕ → ℕ → List Relation → ℕ → Bool
@@ -54,9 +54,9 @@ pub record Fits (K : ℕ → ℕ → Bool) (c : List Relation) (q : ℕ) : Type 
 fits-of : (K : ℕ → ℕ → Bool) (c : List Relation) (q : ℕ) → fits K c q ≡ true → Fits K c q
 unfolding fits fraction
 fits-of K c q h =
-    let a = both-held _ _ h in
-    let b = both-held _ _ (a .1) in
-    let d = both-held _ _ (b .1) in
+    let a = both-true _ _ h in
+    let b = both-true _ _ (a .1) in
+    let d = both-true _ _ (b .1) in
     let l = ltb-true (fOf q) (10 ^ vOf q) (a .0) in
     record { below = l; parts = parts (vOf q) (fOf q) l; kind = b .0; settled = d .0; asks = d .1 }
 
@@ -172,10 +172,10 @@ module _ (k : ℕ) (hk : k < maxPlaces) (c : List Relation) where
   -- what fits: k < v, w = v - k, f = t' * 10 ^ k, and t' passes the search
   module _ (q : ℕ) (hq : q < fractions) (g : Fits (isTail k) c q) where
     after : k < vOf q
-    after = ltb-true k (vOf q) (both-held _ _ (g .kind) .0)
+    after = ltb-true k (vOf q) (both-true _ _ (g .kind) .0)
 
     w-is : W q ≡ vOf q - k
-    w-is = eqb-true (W q) (vOf q - k) (both-held (ltb k (vOf q)) _ (g .kind) .1)
+    w-is = eqb-true (W q) (vOf q - k) (both-true (ltb k (vOf q)) _ (g .kind) .1)
 
     tail : vOf q - W q ≡ k
     tail = let e = w-is in let a = after in omega arith
@@ -213,7 +213,7 @@ module _ (k : ℕ) (hk : k < maxPlaces) (c : List Relation) where
 
   module _ (hv : tailPlaces k (tailOf k c) c ≤ maxPlaces) where
     held : (all (settledF (tailPlaces k (tailOf k c) c) (tailPlaces k (tailOf k c) c - k)) c ≡ true) × (ltb (tailOf k c) (10 ^ (tailPlaces k (tailOf k c) c - k)) ≡ true)
-    held = both-held _ _ (placed-at .hit (omega arith))
+    held = both-true _ _ (placed-at .hit (omega arith))
 
     t-small : tailOf k c < 10 ^ (tailPlaces k (tailOf k c) c - k)
     t-small = ltb-true _ _ (held .1)
@@ -231,7 +231,7 @@ module _ (k : ℕ) (hk : k < maxPlaces) (c : List Relation) where
           w-le = omega arith;
           whole = ap (λ (x : ℕ). tailOf k c * 10 ^ x) (let e : tailPlaces k (tailOf k c) c - (tailPlaces k (tailOf k c) c - k) ≡ k = omega (arith, placed-at .low) in e);
           t-lt = t-small;
-          odd = λ _. eqb-false (tailOf k c % 10) 0 (not-true _ (both-held _ _ t-passes .0));
+          odd = λ _. eqb-false (tailOf k c % 10) 0 (not-true _ (both-true _ _ t-passes .0));
         }
 
     f-below : tailOf k c * 10 ^ k < 10 ^ tailPlaces k (tailOf k c) c
@@ -254,7 +254,7 @@ module _ (k : ℕ) (hk : k < maxPlaces) (c : List Relation) where
         ∙ and-true (lt-ltb _ _ f-below)
         (ap₂ (λ (w t : ℕ). both (both (ltb k v) (eqb w (v - k))) (both (all (settledF v w) c) (all (λ (r : Relation). passes (queryT (v - w)) r t) c))) (parts-w p t-parts) (parts-t p t-parts)
         ∙ and-true (and-true (lt-ltb k v (placed-at .low)) (eq-eqb (v - k) (v - k) refl))
-        (and-true (held .0) (ap (λ (x : ℕ). all (λ (r : Relation). passes (queryT x) r (tailOf k c)) c) (let e : v - (v - k) ≡ k = omega (arith, placed-at .low) in e) ∙ both-held (ends (queryT k) (tailOf k c)) _ t-passes .1)))
+        (and-true (held .0) (ap (λ (x : ℕ). all (λ (r : Relation). passes (queryT x) r (tailOf k c)) c) (let e : v - (v - k) ≡ k = omega (arith, placed-at .low) in e) ∙ both-true (ends (queryT k) (tailOf k c)) _ t-passes .1)))
 
   tail-least : Least (fits (isTail k) c) 0 fractions (tailCode k c)
   unfolding tailCode

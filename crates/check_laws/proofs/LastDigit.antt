@@ -9,9 +9,10 @@ use native.Mathlib.Nat.{mod-lt, mod-mod-of-dvd, dvd-of-mod-eq-zero, zero-div}
 use lib.Dec.{eqb, leb}
 use borrow.Author.Tests.{leb-true, le-leb, lt-leb, eqb-true, eqb-false}
 use Rattle.decimal.specs.Choice.{if_then_else_, both, either}
-use Rattle.decimal.proofs.Choices.{tested, not-both}
+use Rattle.decimal.proofs.Choices.{tested, not-both, both-true}
+use Rattle.decimal.specs.Lists.{all, any}
 use Rattle.rules.specs.Syntax.{Range, Relation}
-use Rattle.plural.specs.Meaning.{any, all, inRange}
+use Rattle.plural.specs.Meaning.{inRange}
 use Rattle.plural.specs.Select.{bit}
 use Rattle.check_laws.proofs.Seeking.{split, and-true, or-true-left, or-true-right, and-false-left, and-false-right}
 use Rattle.check_laws.specs.Fast.{listed, test, asked, factor, passes, passesAll, ends, queryI}
@@ -20,7 +21,6 @@ use Rattle.check_laws.specs.Profile.{marks, reaches, spares, endsIn, las
 use Rattle.check_laws.specs.declared.Floors.{Floors}
 use Rattle.check_laws.proofs.Bits.{bit-at}
 use Rattle.check_laws.proofs.Profiles.{part-whole, part-part}
-use Rattle.check_laws.proofs.Searched.{both-held}
 
 -- ---- ranges
 
@@ -28,7 +28,7 @@ module _ (y : ℕ) (r : Range) where
   -- a number in a range ends in a digit that the range reaches
   in-reaches : inRange y r ≡ true → reaches (y % 10) r ≡ true
   in-reaches h =
-      let k = both-held (leb (r .low) y) (leb y (r .high)) h in
+      let k = both-true (leb (r .low) y) (leb y (r .high)) h in
       let a = leb-true (r .low) y (k .0) in
       let b = leb-true y (r .high) (k .1) in
       let u = r .low % 10 in
@@ -42,7 +42,7 @@ module _ (y : ℕ) (r : Range) where
   out-spares m e l h =
       tested (both (leb (r .low) (y % 10)) (leb (m + y % 10) (r .high + 10)))
       (λ t.
-      let k = both-held (leb (r .low) (y % 10)) (leb (m + y % 10) (r .high + 10)) t in
+      let k = both-true (leb (r .low) (y % 10)) (leb (m + y % 10) (r .high + 10)) t in
       let a = leb-true (r .low) (y % 10) (k .0) in
       let b = leb-true (m + y % 10) (r .high + 10) (k .1) in
       not-both (and-true (le-leb (r .low) y (omega arith)) (le-leb y (r .high) (omega arith))) h)
@@ -120,7 +120,7 @@ module _ (r : Relation) (x : ℕ) where
 last-meet : (whole : Bool) (x : ℕ) (c : List Relation) → all (λ (r : Relation). passes (queryI whole) r x) c ≡ true → all (lastOf whole (x % 10)) c ≡ true
 last-meet whole x [] h = refl
 last-meet whole x (r ∷ c) h =
-    let k = both-held (passes (queryI whole) r x) (all (λ (r : Relation). passes (queryI whole) r x) c) h in
+    let k = both-true (passes (queryI whole) r x) (all (λ (r : Relation). passes (queryI whole) r x) c) h in
     and-true (last-meets r x whole (k .0)) (last-meet whole x c (k .1))
 
 -- where no digit is left, nothing passes

@@ -10,17 +10,17 @@ use lib.Pow.{pow-add}
 use lib.Dec.{ltb, leb, eqb}
 use borrow.Author.Tests.{ne-eqb, eqb-false, leb-true, lt-ltb, ltb-true, not-true}
 use Rattle.decimal.specs.Choice.{if_then_else_, both}
-use Rattle.decimal.proofs.Choices.{tested, not-both}
+use Rattle.decimal.proofs.Choices.{tested, not-both, both-true}
 use Rattle.decimal.proofs.Values.{power-pos, power-mono}
+use Rattle.decimal.specs.Lists.{all}
 use Rattle.number.specs.Limits.{maxPlaces}
 use Rattle.rules.specs.Syntax.{Relation}
-use Rattle.plural.specs.Meaning.{all}
 use Rattle.check_laws.specs.Seek.{seek}
 use Rattle.check_laws.proofs.Seeking.{split, and-true, seek-least}
 use Rattle.check_laws.specs.Fast.{factor, test, passes, ends, passesAll, queryT, queryF, leastF, search, settledF, fractions, tailOf, tailPlaces, tailCode, partCode}
 use Rattle.check_laws.specs.Profile.{marked, Settled, leastRoom}
 use Rattle.check_laws.proofs.Placing.{sought, tail-room}
-use Rattle.check_laws.proofs.Searched.{both-held, search-least}
+use Rattle.check_laws.proofs.Searched.{search-least}
 
 -- ---- what passes before k zeros passes as f
 
@@ -44,18 +44,18 @@ one-f k x r = go (eqb (r .operand) 110) (eqb (r .operand) 105) (eqb (r .operand)
 each-f : (k x : ℕ) (c : List Relation) → all (λ (r : Relation). passes (queryT k) r x) c ≡ true → all (λ (r : Relation). passes queryF r (x * 10 ^ k)) c ≡ true
 each-f k x [] h = refl
 each-f k x (r ∷ rs) h =
-    let b = both-held (passes (queryT k) r x) (all (λ (r : Relation). passes (queryT k) r x) rs) h in
+    let b = both-true (passes (queryT k) r x) (all (λ (r : Relation). passes (queryT k) r x) rs) h in
     and-true (one-f k x r (b .0)) (each-f k x rs (b .1))
 
 pub all-f : (k x : ℕ) (c : List Relation) → passesAll (queryT k) c x ≡ true → passesAll queryF c (x * 10 ^ k) ≡ true
 unfolding passesAll ends
-all-f k x c h = each-f k x c (both-held (not (eqb (x % 10) 0)) (all (λ (r : Relation). passes (queryT k) r x) c) h .1)
+all-f k x c h = each-f k x c (both-true (not (eqb (x % 10) 0)) (all (λ (r : Relation). passes (queryT k) r x) c) h .1)
 
 -- such a t is not 0
 some-t : (k x : ℕ) (c : List Relation) → passesAll (queryT k) c x ≡ true → 1 ≤ x
 unfolding passesAll ends
 some-t k x c h =
-    let b = both-held (not (eqb (x % 10) 0)) (all (λ (r : Relation). passes (queryT k) r x) c) h in
+    let b = both-true (not (eqb (x % 10) 0)) (all (λ (r : Relation). passes (queryT k) r x) c) h in
     let n = eqb-false (x % 10) 0 (not-true (eqb (x % 10) 0) (b .0)) in
     ⊎-elim (λ z. absurd (n (let e : x ≡ 0 = omega arith in rw e))) (λ z. z) (split x 1)
 
@@ -97,7 +97,7 @@ module _ (c : List Relation) (vs ws : ℕ) (s : Settled c vs ws) where
     unfolding U leastRoom
     v-after h a =
         let l = seek-least (λ v. both (marked vs v) (ltb F (10 ^ v))) maxPlaces 1 in
-        let m = both-held (marked vs v) (marked ws (v - k)) (sym (s .says v (v - k) high (omega arith)) ∙ a) in
+        let m = both-true (marked vs v) (marked ws (v - k)) (sym (s .says v (v - k) high (omega arith)) ∙ a) in
         let r : F < 10 ^ v = let x = f-after h in let y = fits h in omega arith in
         ⊎-elim (λ z. not-both (and-true (m .0) (lt-ltb F (10 ^ v) r)) (l .none v (omega arith) z)) (λ z. z) (split v U)
 
@@ -114,7 +114,7 @@ module _ (c : List Relation) (vs ws : ℕ) (s : Settled c vs ws) where
       let hv = leb-true v maxPlaces z in
       let l = sought k hk c t in
       let low : k < v = l .low in
-      let b = both-held (all (settledF v (v - k)) c) (ltb t (10 ^ (v - k))) (l .hit (omega arith)) in
+      let b = both-true (all (settledF v (v - k)) c) (ltb t (10 ^ (v - k))) (l .hit (omega arith)) in
       let h = ltb-true t (10 ^ (v - k)) (b .1) in
       let x = f-after k hk v low hv h in
       let m : U * 10 ^ maxPlaces ≤ v * 10 ^ maxPlaces = mul-le-mul-right (10 ^ maxPlaces) (v-after k hk v low hv h (b .0)) in

@@ -11,13 +11,12 @@ use lib.Pow.{pow-add}
 use lib.Arith.{mod-mul}
 use borrow.Author.Tests.{eqb-true, eqb-false, eq-eqb, ne-eqb, leb-true, leb-false, not-true}
 use Rattle.decimal.specs.Choice.{if_then_else_, both}
-use Rattle.decimal.proofs.Choices.{choice, tested, not-both}
+use Rattle.decimal.proofs.Choices.{choice, tested, not-both, both-true, both-one}
+use Rattle.decimal.specs.Lists.{all}
 use Rattle.rules.specs.Syntax.{Relation}
-use Rattle.plural.specs.Meaning.{all}
 use Rattle.check_laws.specs.Fast.{Query, factor, asked, listed, test, passes, ends, passesAll}
 use Rattle.check_laws.specs.Levels.{levels, window, stray, levelOf, levelIn, ownOne, lastDigit, own, below, levelled}
 use Rattle.check_laws.proofs.Seeking.{split}
-use Rattle.check_laws.proofs.Searched.{both-held}
 
 -- ---- remainders
 
@@ -97,10 +96,6 @@ unfoldable belowOne : Query → Relation → ℕ → ℕ → Bool
 belowOne q r zero x = true
 belowOne q r (suc j) x = both (ownOne q j r (x % 10 ^ j)) (belowOne q r j x)
 
-both-true : (b : Bool) → both b true ≡ b
-both-true true = refl
-both-true false = refl
-
 module _ (q : Query) (r : Relation) where
   pub own-unasked : (j x : ℕ) → asked q r ≡ false → ownOne q j r x ≡ true
   unfolding ownOne
@@ -131,7 +126,7 @@ module _ (q : Query) (r : Relation) where
       tested (eqb J j)
       (λ e. let g : J ≡ j = eqb-true J j e in
       ap (both (ownOne q J r (x % 10 ^ J))) (below-none J x (λ i k. f i (λ z. absurd (omega arith))))
-      ∙ both-true (ownOne q J r (x % 10 ^ J)) ∙ ap (λ (i : ℕ). ownOne q i r (x % 10 ^ i)) g)
+      ∙ both-one (ownOne q J r (x % 10 ^ J)) ∙ ap (λ (i : ℕ). ownOne q i r (x % 10 ^ i)) g)
       (λ e. let n = eqb-false J j e in
       let l : j < J = apart n in
       rw (f J n) (below-one J j x l f))
@@ -159,7 +154,7 @@ module _ (q : Query) (r : Relation) where
       let e : levelIn q r ≡ window = omega arith in
       ap (listed r) (ap (λ (w : ℕ). x * factor q (r .operand) % w) (known .free e) ∙ mod-zero (x * factor q (r .operand)))
       ∙ sym (own-here window x a e)
-      ∙ sym (both-true (ownOne q window r x))
+      ∙ sym (both-one (ownOne q window r x))
       ∙ ap (both (ownOne q window r x)) (sym (below-none levels x (λ j k. own-other j (x % 10 ^ j) (λ z. absurd (omega arith)))))
 
   one-split : (x : ℕ) → (if asked q r then not (eqb (levelIn q r) stray) else true) ≡ true → passes q r x ≡ both (ownOne q window r x) (belowOne q r levels x)
@@ -223,14 +218,14 @@ digits-is q x = go (q .odd)
         (both (if both o (eqb 2 1) then not (eqb (x % 10 ^ 2) 0) else true)
         (both (if both o (eqb 1 1) then not (eqb (x % 10 ^ 1) 0) else true)
         (both (if both o (eqb 0 1) then not (eqb (x % 10 ^ 0) 0) else true) true)))))))
-    go true = sym (both-true (not (eqb (x % 10) 0)))
+    go true = sym (both-one (not (eqb (x % 10) 0)))
     go false = refl
 
 each-split : (q : Query) (c : List Relation) (x : ℕ) → levelled q c ≡ true
     → all (λ (r : Relation). passes q r x) c ≡ all (λ (r : Relation). both (ownOne q window r x) (belowOne q r levels x)) c
 unfolding levelled
 each-split q [] x e = refl
-each-split q (r ∷ c) x e = let h = both-held _ _ e in ap₂ both (one-split q r x (h .0)) (each-split q c x (h .1))
+each-split q (r ∷ c) x e = let h = both-true _ _ e in ap₂ both (one-split q r x (h .0)) (each-split q c x (h .1))
 
 -- What a clause asks of x: what it asks of x itself, and of its remainders.
 pub levelled-split : (q : Query) (c : List Relation) (x : ℕ) → levelled q c ≡ true → passesAll q c x ≡ both (own q c window x) (below q c levels x)

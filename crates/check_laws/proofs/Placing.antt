@@ -11,15 +11,15 @@ use lib.Pow.{pow-add}
 use lib.Dec.{ltb, leb, eqb}
 use borrow.Author.Tests.{le-leb, lt-leb, ltb-true}
 use Rattle.decimal.specs.Choice.{if_then_else_, both, either}
-use Rattle.decimal.proofs.Choices.{not-both}
+use Rattle.decimal.proofs.Choices.{not-both, either-false, both-true}
 use Rattle.decimal.proofs.Values.{power-mono}
+use Rattle.decimal.specs.Lists.{all}
 use Rattle.number.specs.Limits.{maxExponent, maxPlaces}
 use Rattle.rules.specs.Syntax.{Relation}
-use Rattle.plural.specs.Meaning.{all}
 use Rattle.check_laws.specs.Seek.{Least, seek}
 use Rattle.check_laws.proofs.Seeking.{split, and-true, least-one, seek-least}
 use Rattle.check_laws.specs.Fast.{factor, test, ends, passesAll, alone, aloneOf, asksOf, queryT, passes, search, settledE, settledF, exponentOf, fractions, wholeCode, tailOf, tailPlaces, tailCode, partCode, fractionCode}
-use Rattle.check_laws.proofs.Searched.{both-held, search-least}
+use Rattle.check_laws.proofs.Searched.{search-least}
 
 -- ---- a test in turn
 
@@ -77,7 +77,7 @@ module _ (k : ℕ) (hk : k < maxPlaces) (c : List Relation) where
       let l = seek-least (λ v. all (settledF v (v - k)) c) (maxPlaces - k) (suc k) in
       let g : maxPlaces < tailPlaces k (tailOf k c) c =
       ⊎-elim (λ z. z)
-      (λ z. not-both (both-held _ _ (sought (tailOf k c) .hit (omega arith)) .0) (l .none (tailPlaces k (tailOf k c) c) (sought (tailOf k c) .low) (omega arith)))
+      (λ z. not-both (both-true _ _ (sought (tailOf k c) .hit (omega arith)) .0) (l .none (tailPlaces k (tailOf k c) c) (sought (tailOf k c) .low) (omega arith)))
       (split maxPlaces (tailPlaces k (tailOf k c) c)) in
       rw (lt-leb (tailPlaces k (tailOf k c) c) maxPlaces g)
 
@@ -132,13 +132,13 @@ one-alone k x r = go (eqb (r .operand) 110) (eqb (r .operand) 105) (eqb (r .oper
 each-alone : (k x : ℕ) (c : List Relation) → all (λ (r : Relation). passes (queryT k) r x) c ≡ true → all (λ (r : Relation). passes alone r x) c ≡ true
 each-alone k x [] h = refl
 each-alone k x (r ∷ rs) h =
-    let b = both-held (passes (queryT k) r x) (all (λ (r : Relation). passes (queryT k) r x) rs) h in
+    let b = both-true (passes (queryT k) r x) (all (λ (r : Relation). passes (queryT k) r x) rs) h in
     and-true (one-alone k x r (b .0)) (each-alone k x rs (b .1))
 
 pub all-alone : (k x : ℕ) (c : List Relation) → passesAll (queryT k) c x ≡ true → passesAll alone c x ≡ true
 unfolding passesAll ends
 all-alone k x c h =
-    let b = both-held (not (eqb (x % 10) 0)) (all (λ (r : Relation). passes (queryT k) r x) c) h in
+    let b = both-true (not (eqb (x % 10) 0)) (all (λ (r : Relation). passes (queryT k) r x) c) h in
     and-true (b .0) (each-alone k x c (b .1))
 
 module _ (c : List Relation) (t : ℕ) (e : t ≡ aloneOf c) (h : 10 ^ maxPlaces ≤ t) (k : ℕ) (hk : k < maxPlaces) where
@@ -157,16 +157,12 @@ module _ (c : List Relation) (t : ℕ) (e : t ≡ aloneOf c) (h : 10 ^ maxPlaces
       sym (tail-none k hk c (tailOf k c) (tailPlaces k (tailOf k c) c) refl refl
       (⊎-elim (λ z. z)
       (λ z.
-      let d = both-held (all (settledF (tailPlaces k (tailOf k c) c) (tailPlaces k (tailOf k c) c - k)) c) (ltb (tailOf k c) (10 ^ (tailPlaces k (tailOf k c) c - k))) (sought k hk c (tailOf k c) .hit (omega arith)) in
+      let d = both-true (all (settledF (tailPlaces k (tailOf k c) c) (tailPlaces k (tailOf k c) c - k)) c) (ltb (tailOf k c) (10 ^ (tailPlaces k (tailOf k c) c - k))) (sought k hk c (tailOf k c) .hit (omega arith)) in
       let b : 10 ^ (tailPlaces k (tailOf k c) c - k) ≤ 10 ^ (maxPlaces - k) = power-mono {j = maxPlaces - k} (omega arith) in
       absurd (omega (arith, ltb-true (tailOf k c) (10 ^ (tailPlaces k (tailOf k c) c - k)) (d .1), tail-far)))
       (split maxPlaces (tailPlaces k (tailOf k c) c))))
 
 -- ---- where no relation asks f
-
-neither : (a b : Bool) → either a b ≡ false → (a ≡ false) × (b ≡ false)
-neither true b h = not-both {b = true} refl h
-neither false b h = (refl, h)
 
 one-same : (k x : ℕ) (r : Relation) → eqb (r .operand) 102 ≡ false → passes (queryT k) r x ≡ passes alone r x
 unfolding passes factor
@@ -175,7 +171,7 @@ one-same k x r n = rw n
 each-same : (k x : ℕ) (c : List Relation) → asksOf 102 c ≡ false → all (λ (r : Relation). passes (queryT k) r x) c ≡ all (λ (r : Relation). passes alone r x) c
 each-same k x [] h = refl
 each-same k x (r ∷ rs) h =
-    let n = neither (eqb (r .operand) 102) (asksOf 102 rs) h in
+    let n = either-false (eqb (r .operand) 102) (asksOf 102 rs) h in
     ap₂ both (one-same k x r (n .0)) (each-same k x rs (n .1))
 
 all-same : (k x : ℕ) (c : List Relation) → asksOf 102 c ≡ false → passesAll (queryT k) c x ≡ passesAll alone c x

@@ -14,11 +14,11 @@ use lib.ListN.{getD}
 use native.Mathlib.Decide.{ℕ-discrete}
 use borrow.Author.Tests.{eq-eqb, ne-eqb, le-leb}
 use Rattle.decimal.specs.Choice.{if_then_else_, both, either}
+use Rattle.decimal.specs.Lists.{all}
 use Rattle.number.specs.Limits.{maxExponent, maxPlaces}
 use Rattle.rules.specs.Syntax.{Relation}
 use Rattle.rules.specs.Stretch.{stretch, startAt, Table, relationsIn, clauseAt}
 use Rattle.rules.proofs.Stretches.{stretch-same}
-use Rattle.plural.specs.Meaning.{all}
 use Rattle.plural.specs.Select.{bit, maskOf}
 use Rattle.plural.proofs.Masks.{mask-fits}
 use Rattle.check_laws.specs.Seek.{seek}

@@ -6,14 +6,13 @@ use Prim.Native.Nat.{ℕ, suc, _-_, _/_, _%_, _^_, _≤_, _<_}
 use native.Mathlib.Omega.{arith}
 use lib.Dec.{eqb}
 use borrow.Author.Tests.{ltb-true, lt-ltb, leb-true, le-leb, eqb-true, eqb-false}
-use Rattle.decimal.proofs.Choices.{tested}
+use Rattle.decimal.proofs.Choices.{tested, both-true}
 use Rattle.decimal.proofs.Values.{power-mono}
 use Rattle.answer.specs.declared.Witness.{Witness}
 use Rattle.number.specs.Limits.{maxDigits, maxPlaces}
 use Rattle.check_laws.proofs.Seeking.{split, and-true}
 use Rattle.check_laws.specs.Check.{lowest, admits, rank, ranked, ranks}
 use Rattle.check_laws.specs.Claims.{IsAdmitted, Before}
-use Rattle.check_laws.proofs.Searched.{both-held}
 
 low-shifted : (e i : ℕ) → lowest e ≤ i → 0 < e → 10 ^ e ≤ i
 low-shifted e i h k = tested (eqb e 0) (λ z. absurd (no (eqb-true e 0 z))) (λ z. rw z at h)
@@ -30,10 +29,10 @@ shifted-low e i h =
 pub admitted-of : (x : Witness) → admits x ≡ true → IsAdmitted x
 unfolding admits
 admitted-of x h =
-    let a = both-held _ _ h in
-    let b = both-held _ _ (a .1) in
-    let c = both-held _ _ (b .1) in
-    let d = both-held _ _ (c .1) in
+    let a = both-true _ _ h in
+    let b = both-true _ _ (a .1) in
+    let c = both-true _ _ (b .1) in
+    let d = both-true _ _ (c .1) in
     record {
       exponent = leb-true _ _ (a .0);
       places = leb-true _ _ (b .0);

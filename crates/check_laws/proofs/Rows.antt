@@ -9,7 +9,7 @@ use native.Mathlib.Nat.{mod-zero}
 use lib.Dec.{leb, ltb, eqb}
 use borrow.Author.Tests.{lt-ltb, le-leb, leb-true}
 use Rattle.decimal.specs.Choice.{if_then_else_, both, either}
-use Rattle.decimal.proofs.Choices.{not-both}
+use Rattle.decimal.proofs.Choices.{not-both, both-true}
 use Rattle.answer.specs.declared.Keyword.{Keyword}
 use Rattle.answer.specs.declared.Keyword.the-variants.{One, Two, Few}
 use Rattle.answer.specs.declared.Witness.{Witness}
@@ -21,7 +21,6 @@ use Rattle.check_laws.specs.Check.{numberAt, rank, ranked, ranks, leastR
 use Rattle.check_laws.specs.Claims.{IsAdmitted, Apart, ruleAt}
 use Rattle.check_laws.specs.declared.Checked.{Checked}
 use Rattle.check_laws.specs.declared.Checked.the-variants.{Passes, Clashes}
-use Rattle.check_laws.proofs.Searched.{both-held}
 use Rattle.check_laws.proofs.Ranks.{ranked-rank, rank-lt}
 use Rattle.check_laws.proofs.Claimed.{lower, found-passes, apart-passes}
 
@@ -64,7 +63,7 @@ module _ (a b : Rule) where
       same : clashOf a b ≡ rank x
       same =
           let f = found-passes Both few in
-          let h = both-held (meets a (numberAt (ranked (clashOf a b)))) (meets b (numberAt (ranked (clashOf a b)))) (f .1) in
+          let h = both-true (meets a (numberAt (ranked (clashOf a b)))) (meets b (numberAt (ranked (clashOf a b)))) (f .1) in
           let l = least (ranked (clashOf a b)) (f .0, h .0, h .1) in
           let back : rank (ranked (clashOf a b)) ≡ clashOf a b = omega (arith, few) in
           omega (arith, at-most)
@@ -97,7 +96,7 @@ row-tens =
     two-clash (rule One (relation 110 0 false 1 1)) (rule Few (relation 110 10 false 1 3)) (spot 0 0 1 0)
     (record { exponent = omega arith; places = omega arith; whole = omega arith; fraction = omega arith; shifted = λ h. absurd (omega arith) }, refl, refl)
     (λ y m.
-    let h = both-held (eqb (y .f .0) 0) _ (of-rule _ (m .1)) in
+    let h = both-true (eqb (y .f .0) 0) _ (of-rule _ (m .1)) in
     let i = from-to 1 1 (y .i % 0) (h .1) in
     omega (arith, i .0, mod-zero (y .i)))
 
@@ -146,8 +145,8 @@ row-few = apart-passes packFew apart
   where
     apart : (i j : ℕ) → i < j → j < 2 → Apart (ruleAt packFew i) (ruleAt packFew j)
     apart zero (suc zero) h k x m =
-        let a = both-held (eqb (x .f .0) 0) _ (of-rule _ (m .first)) in
-        let b = both-held (eqb (x .f .0) 0) _ (of-rule _ (m .second)) in
+        let a = both-true (eqb (x .f .0) 0) _ (of-rule _ (m .first)) in
+        let b = both-true (eqb (x .f .0) 0) _ (of-rule _ (m .second)) in
         let p = from-to 1 1 (x .i % 0) (a .1) in
         let q = from-to 2 4 (x .i % 0) (b .1) in
         omega (arith, p .1, q .0)

@@ -10,9 +10,9 @@ use lib.ListN.{getD}
 use borrow.Author.Tests.{ne-eqb}
 use Rattle.decimal.specs.Choice.{if_then_else_, both}
 use Rattle.decimal.proofs.Choices.{not-both}
+use Rattle.decimal.specs.Lists.{all}
 use Rattle.rules.specs.Syntax.{Relation}
 use Rattle.rules.specs.Stretch.{startAt}
-use Rattle.plural.specs.Meaning.{all}
 use Rattle.check_laws.specs.Seek.{Least}
 use Rattle.check_laws.proofs.Seeking.{seek-least, least-one}
 use Rattle.check_laws.specs.Fast.{Query, factor, passesAll, search}
@@ -20,10 +20,6 @@ use Rattle.check_laws.specs.Read.{cap}
 use Rattle.check_laws.specs.Ready.{Room}
 
 -- two tests that both hold
-pub both-held : (a b : Bool) → both a b ≡ true → (a ≡ true) × (b ≡ true)
-both-held true b e = (refl, e)
-both-held false b e = not-both e refl
-
 pub all-append : (P : Relation → Bool) (c d : List Relation) → all P (c ++ d) ≡ both (all P c) (all P d)
 all-append P [] d = refl
 all-append P (r ∷ c) d = ap (both (P r)) (all-append P c d) ∙ assoc (P r) (all P c) (all P d)

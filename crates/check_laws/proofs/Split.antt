@@ -8,16 +8,13 @@ use native.Mathlib.Nat.{mul-one}
 use lib.Dec.{eqb}
 use borrow.Author.Tests.{eqb-true, ne-eqb}
 use Rattle.decimal.specs.Choice.{if_then_else_, both, either}
-use Rattle.decimal.proofs.Choices.{tested, eqb-same}
+use Rattle.decimal.proofs.Choices.{tested, eqb-same, both-one}
 use Rattle.decimal.proofs.Values.{power-pos}
+use Rattle.decimal.specs.Lists.{all, any}
 use Rattle.number.specs.declared.Number.{Number}
 use Rattle.rules.specs.Syntax.{Range, Relation}
-use Rattle.plural.specs.Meaning.{any, all, inRange, holds, clauseHolds}
+use Rattle.plural.specs.Meaning.{inRange, holds, clauseHolds}
 use Rattle.check_laws.specs.Fast.{listed, test, factor, passes, queryI, queryT, ofExponent, settledE, settledV, settledW, settledF}
-
-both-one : (a : Bool) → a ≡ both a true
-both-one true = refl
-both-one false = refl
 
 -- a number with these operands, of which w is 0 exactly where f is
 module _ (negative : Bool) (e v i f w t : ℕ) (to : w ≡ 0 → f ≡ 0) (from : f ≡ 0 → w ≡ 0) (is : t * 10 ^ (v - w) ≡ f) where
@@ -41,14 +38,14 @@ module _ (negative : Bool) (e v i f w t : ℕ) (to : w ≡ 0 → f ≡ 0) (from 
 
         go : (b s : Bool) → (if s then not (both b (any (inRange (i % m)) rs)) else both b (any (inRange (i % m)) rs))
             ≡ both (either b s) (both (if not (eqb (if b then 1 else 0) 0) then (if s then not (any (inRange (i * (if b then 1 else 0) % m)) rs) else any (inRange (i * (if b then 1 else 0) % m)) rs) else true) true)
-        go true true = rw (mul-one i) (both-one _)
-        go true false = rw (mul-one i) (both-one _)
+        go true true = rw (mul-one i) (sym (both-one _))
+        go true false = rw (mul-one i) (sym (both-one _))
         go false true = refl
         go false false = refl
 
     at-i : Says 105
     unfolding settledE settledV settledW ofExponent passes factor test listed
-    at-i = rw (mul-one i) (both-one _)
+    at-i = rw (mul-one i) (sym (both-one _))
 
     at-f : Says 102
     unfolding settledE settledV settledW ofExponent passes factor test listed
@@ -68,11 +65,11 @@ module _ (negative : Bool) (e v i f w t : ℕ) (to : w ≡ 0 → f ≡ 0) (from 
 
     at-w : Says 119
     unfolding settledE settledV settledW ofExponent passes factor test listed
-    at-w = both-one _
+    at-w = sym (both-one _)
 
     at-e : (o : ℕ) → eqb o 110 ≡ false → eqb o 105 ≡ false → eqb o 102 ≡ false → eqb o 116 ≡ false → eqb o 118 ≡ false → eqb o 119 ≡ false → Says o
     unfolding settledE settledV settledW ofExponent passes factor test listed
-    at-e o a b c d p q = rw (a, b, c, d, p, q) (both-one _)
+    at-e o a b c d p q = rw (a, b, c, d, p, q) (sym (both-one _))
 
     says : (o : ℕ) → Says o
     says o =

@@ -9,10 +9,10 @@ use native.Mathlib.Nat.{mul-le-mul-right}
 use lib.Dec.{leb, ltb}
 use borrow.Author.Tests.{lt-ltb, le-ltb, ltb-true, leb-true, leb-false}
 use Rattle.decimal.specs.Choice.{if_then_else_, both}
-use Rattle.decimal.proofs.Choices.{tested, not-both}
+use Rattle.decimal.proofs.Choices.{tested, not-both, both-true}
+use Rattle.decimal.specs.Lists.{all}
 use Rattle.number.specs.Limits.{maxExponent, maxDigits, maxPlaces}
 use Rattle.rules.specs.Syntax.{Relation}
-use Rattle.plural.specs.Meaning.{all}
 use Rattle.check_laws.specs.Seek.{seek, Least}
 use Rattle.check_laws.proofs.Seeking.{split, and-true, seek-least}
 use Rattle.check_laws.specs.Check.{lowest, block, ranks}
@@ -21,7 +21,7 @@ use Rattle.check_laws.proofs.FastIs.{lowest-le, least-same}
 use Rattle.check_laws.proofs.Flooring.{each-kind}
 use Rattle.check_laws.proofs.Placing.{tail-ge, sought}
 use Rattle.check_laws.proofs.Profiles.{both-all}
-use Rattle.check_laws.proofs.Searched.{both-held, search-least, least-search}
+use Rattle.check_laws.proofs.Searched.{search-least, least-search}
 use Rattle.check_laws.proofs.Spotting.{KindSays, clause-some, some-fraction, kind-no-fraction}
 
 -- the number whose f is 0 is the clause's
@@ -115,8 +115,8 @@ module _ (c : List Relation) where
   unfolding v₀
   after h v w k s =
       let l = seek-least (λ v. all (settledF v 0) c) (suc maxPlaces) 0 in
-      let z = both-held (all (settledV v₀) c) (all (settledW 0) c) (sym (both-all v₀ 0 c) ∙ l .hit (omega arith)) in
-      let y = both-held (all (settledV v) c) (all (settledW w) c) (sym (both-all v w c) ∙ s) in
+      let z = both-true (all (settledV v₀) c) (all (settledW 0) c) (sym (both-all v₀ 0 c) ∙ l .hit (omega arith)) in
+      let y = both-true (all (settledV v) c) (all (settledW w) c) (sym (both-all v w c) ∙ s) in
       ⊎-elim (λ a. not-both (both-all v 0 c ∙ and-true (y .0) (z .1)) (l .none v (omega arith) a)) (λ a. a) (split v v₀)
 
   tail-after : v₀ ≤ maxPlaces → (k : ℕ) → k < maxPlaces → v₀ * 10 ^ maxPlaces ≤ tailCode k c
@@ -126,7 +126,7 @@ module _ (c : List Relation) where
       let v = tailPlaces k t c in
       tested (leb v maxPlaces)
       (λ z.
-      let b = both-held (all (settledF v (v - k)) c) (ltb t (10 ^ (v - k))) (sought k hk c t .hit (let a = leb-true v maxPlaces z in omega arith)) in
+      let b = both-true (all (settledF v (v - k)) c) (ltb t (10 ^ (v - k))) (sought k hk c t .hit (let a = leb-true v maxPlaces z in omega arith)) in
       let m : v₀ * 10 ^ maxPlaces ≤ v * 10 ^ maxPlaces = mul-le-mul-right (10 ^ maxPlaces) (after h v (v - k) (leb-true v maxPlaces z) (b .0)) in
       rw z (omega arith))
       (λ z. rw z (omega arith))

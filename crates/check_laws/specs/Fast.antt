@@ -5,9 +5,10 @@ use mathlib.Core.List.{List, [], _∷_, _++_}
 use Prim.Native.Nat.{ℕ, zero, suc, _+_, _-_, _*_, _/_, _%_, _^_, min}
 use lib.Dec.{leb, ltb, eqb}
 use Rattle.decimal.specs.Choice.{if_then_else_, both, either}
+use Rattle.decimal.specs.Lists.{all, any}
 use Rattle.number.specs.Limits.{maxExponent, maxDigits, maxPlaces}
 use Rattle.rules.specs.Syntax.{Range, Relation, Rule}
-use Rattle.plural.specs.Meaning.{any, all, inRange}
+use Rattle.plural.specs.Meaning.{inRange}
 use Rattle.check_laws.specs.Seek.{seek}
 use Rattle.check_laws.specs.Check.{lowest, block, ranks, firstPair}
 use Rattle.check_laws.specs.declared.Checked.{Checked}

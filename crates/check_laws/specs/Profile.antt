@@ -7,10 +7,10 @@ use Prim.Native.Nat.{ℕ, suc, _+_, _-_, _*_, _/_, _%_, _^_, _≤_, _<_, min}
 use lib.Dec.{eqb, leb, ltb}
 use lib.ListN.{getD}
 use Rattle.decimal.specs.Choice.{if_then_else_, both, either}
+use Rattle.decimal.specs.Lists.{all, any}
 use Rattle.number.specs.Limits.{maxExponent, maxPlaces}
 use Rattle.rules.specs.Syntax.{Range, Relation}
 use Rattle.rules.specs.Stretch.{stretch, Table, clauseAt}
-use Rattle.plural.specs.Meaning.{any, all}
 use Rattle.plural.specs.Select.{maskOf}
 use Rattle.check_laws.specs.Seek.{seek}
 use Rattle.check_laws.specs.Fast.{passes, asked, queryI, queryT, settledE, settledV, settledW, settledF}

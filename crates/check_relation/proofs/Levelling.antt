@@ -9,16 +9,16 @@ use native.Mathlib.Nat.{mod-lt, mod-zero, div-add-mod', mul-le-mul-right}
 use lib.Dec.{eqb}
 use borrow.Author.Tests.{eq-eqb, ne-eqb, le-leb, lt-leb, eqb-true}
 use Rattle.decimal.specs.Choice.{if_then_else_, both}
-use Rattle.decimal.proofs.Choices.{tested, choice}
+use Rattle.decimal.proofs.Choices.{tested, choice, both-true}
+use Rattle.decimal.specs.Lists.{any}
 use Rattle.rules.specs.Syntax.{Range, Relation}
-use Rattle.plural.specs.Meaning.{any, inRange}
+use Rattle.plural.specs.Meaning.{inRange}
 use Rattle.check_laws.specs.Seek.{Alike}
 use Rattle.check_laws.proofs.Seeking.{split}
 use Rattle.check_laws.specs.Fast.{listed, test, factor, asked, passes}
 use Rattle.check_laws.specs.Levels.{levelOf, levelIn, ownOne}
 use Rattle.check_laws.specs.Ready.{Fit}
 use Rattle.check_laws.specs.declared.Query.{Query}
-use Rattle.check_laws.proofs.Searched.{both-held}
 use Rattle.check_relation.specs.Runs.{tier, far, upwards}
 use Rattle.check_relation.proofs.Alikes.{alike-at, alike-same, alike-all, alike-not}
 
@@ -156,7 +156,7 @@ unfolding ownOne tier
 tier-other q r t j x e d =
     choice (λ b. b ≡ true) (both (asked q r) (eqb (levelIn q r) j))
     (λ u.
-    let h = both-held (asked q r) (eqb (levelIn q r) j) u in
+    let h = both-true (asked q r) (eqb (levelIn q r) j) u in
     absurd (d (e ∙ rw (h .0) (eqb-true (levelIn q r) j (h .1)))))
     (λ u. refl)
 

@@ -9,15 +9,15 @@ use lib.Dec.{leb, ltb}
 use lib.ListN.{getD}
 use borrow.Author.Tests.{lt-ltb, le-ltb, ltb-true, ltb-false, leb-true, leb-false, le-leb, lt-leb}
 use Rattle.decimal.specs.Choice.{both, either}
-use Rattle.decimal.proofs.Choices.{tested}
+use Rattle.decimal.proofs.Choices.{tested, both-true}
+use Rattle.decimal.specs.Lists.{all, any}
 use Rattle.rules.specs.Syntax.{Range}
 use Rattle.rules.specs.Stretch.{stretch, rangeAt, rangesIn}
 use Rattle.rules.proofs.Stretches.{stretch-snoc}
-use Rattle.plural.specs.Meaning.{any, all, inRange}
+use Rattle.plural.specs.Meaning.{inRange}
 use Rattle.check_laws.specs.Seek.{Alike}
 use Rattle.check_laws.proofs.Seeking.{and-true, and-false-left, and-false-right, or-false, or-true-left, or-true-right}
 use Rattle.check_laws.specs.Read.{cap}
-use Rattle.check_laws.proofs.Searched.{both-held}
 use Rattle.check_relation.specs.Runs.{far, nextWith}
 use Rattle.check_relation.proofs.Alikes.{alike-same}
 
@@ -148,7 +148,7 @@ module _ (low high : List ℕ) (from to y : ℕ) where
   pub sweep-in : (next k stop : ℕ) (b : Bool) → k < to → Sweep next k → b ≡ inRange y (rangeAt low high k) → b ≡ true → stop ≡ getD high k 0 + 1 → Alike All y true stop
   sweep-in next k stop b h s i t g =
       let order = s .order in
-      let c = both-held (leb (getD low k 0) y) (leb y (getD high k 0)) (sym i ∙ t) in
+      let c = both-true (leb (getD low k 0) y) (leb y (getD high k 0)) (sym i ∙ t) in
       let lo = leb-true (getD low k 0) y (c .0) in
       let hi = leb-true y (getD high k 0) (c .1) in
       record {

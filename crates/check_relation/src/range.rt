@@ -1,7 +1,8 @@
 // Ranges: whether a value is in one of a stretch of them, and how far the values after it are like it.
 ghost use mathlib.Core.Path.{_≡_};
 ghost use Prim.Native.Nat.{ℕ, _+_, _≤_, _<_, min, max};
-ghost use Rattle.plural.specs.Meaning.{any, inRange};
+ghost use Rattle.decimal.specs.Lists.{any};
+ghost use Rattle.plural.specs.Meaning.{inRange};
 ghost use Rattle.rules.specs.Stretch.{rangesIn};
 ghost use Rattle.check_laws.specs.Seek.{Alike};
 ghost use Rattle.check_laws.specs.Read.{cap};

@@ -11,7 +11,7 @@ use lib.ListN.{length, getD, set, length-set}
 use lib.Seq.{getD-set-same, getD-set-other}
 use borrow.Author.Tests.{eqb-true, ne-eqb}
 use Rattle.decimal.specs.Choice.{if_then_else_, both}
-use Rattle.decimal.proofs.Choices.{choice, not-both}
+use Rattle.decimal.proofs.Choices.{choice, not-both, both-true}
 use Rattle.rules.specs.Syntax.{Relation}
 use Rattle.rules.specs.Stretch.{Table}
 use Rattle.check_laws.proofs.Seeking.{split, and-true}
@@ -20,7 +20,6 @@ use Rattle.check_laws.specs.Levels.{levelOf, levelIn, stray, ownOne, lastDigit,
 use Rattle.check_laws.specs.Read.{joinedIn}
 use Rattle.check_laws.specs.declared.Query.{Query}
 use Rattle.check_laws.specs.declared.Span.{Span}
-use Rattle.check_laws.proofs.Searched.{both-held}
 use Rattle.check_runs.specs.Kept.{sizeOf, Told, Noted, Grown}
 use Rattle.check_relation.specs.Runs.{tier}
 use Rattle.check_relation.proofs.Levelling.{not-asked}
@@ -50,7 +49,7 @@ unfolding ownOne
 noted-own q r marks j x n e =
     choice (λ b. b ≡ true) (both (asked q r) (eqb (levelIn q r) j))
     (λ t.
-    let h = both-held (asked q r) (eqb (levelIn q r) j) t in
+    let h = both-true (asked q r) (eqb (levelIn q r) j) t in
     not-both (n (h .0)) (ap (λ (k : ℕ). getD marks k false) (eqb-true (levelIn q r) j (h .1)) ∙ e))
     (λ t. refl)
 
@@ -93,7 +92,7 @@ module _ (T : Table) (s : Span) (q : Query) where
     digit-own j x e =
         choice (λ b. b ≡ true) (both (q .odd) (eqb j 1))
         (λ t.
-        let u = both-held (q .odd) (eqb j 1) t in
+        let u = both-true (q .odd) (eqb j 1) t in
         not-both (m .digit (u .0)) (ap (λ (i : ℕ). getD marks i false) (sym (eqb-true j 1 (u .1))) ∙ e))
         (λ t. refl)
 

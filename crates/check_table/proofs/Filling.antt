@@ -10,11 +10,11 @@ use native.Mathlib.Nat.{mod-lt, mod-eq-of-lt}
 use lib.ListN.{length, set}
 use lib.Seq.{getD-set-same, getD-set-other}
 use Rattle.decimal.specs.Choice.{both, either}
+use Rattle.decimal.proofs.Choices.{both-true}
 use Rattle.rules.proofs.Stretches.{stretch-cons, stretch-nil, stretch-snoc, stretch-same}
 use Rattle.check_laws.specs.Segments.{Segment, segment, within, inside, Rising, Starts, first, Level}
 use Rattle.check_laws.proofs.Seeking.{split}
 use Rattle.check_laws.proofs.Segmented.{before, behind, between, rising-end, rising-up}
-use Rattle.check_laws.proofs.Searched.{both-held}
 use Rattle.check_next.specs.Table.{segmentAt, segmentsIn}
 use Rattle.check_table.specs.Building.{Opens, Covers}
 
@@ -84,7 +84,7 @@ module _ (P Q : ℕ → Bool) where
         let some = o .some h in
         record {
           rising = rising-snoc 0 p stop l s (v .rising) (o .least .low) (omega arith) (omega arith);
-          opened = starts-snoc Q l s (v .opened) (both-held (P a) (Q a) (o .least .hit h) .1);
+          opened = starts-snoc Q l s (v .opened) (both-true (P a) (Q a) (o .least .hit h) .1);
           agree = λ x b. rw (inside-snoc l s x)
               (⊎-elim (λ (u : x < p). early s x u (o .least .low)) (λ (u : p ≤ x). rw (rising-above 0 p x l (v .rising) u)
               (⊎-elim (λ (w : x < a). rw (before s x w) (o .least .none x u w))

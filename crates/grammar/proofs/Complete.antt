@@ -3,8 +3,9 @@ use mathlib.Core.Path.{_≡_, refl, sym, ap, _∙_}
 use mathlib.Core.Bool.{Bool, true, false, not}
 use mathlib.Core.List.{List, [], _∷_, _++_, append-assoc, append-nil}
 use Rattle.decimal.specs.Choice.{both}
+use Rattle.decimal.specs.Lists.{all}
 use Rattle.token.specs.Spelling.{same}
-use Rattle.grammar.specs.Grammar.{Text, all, colon, comma, and, or, other, isWord, isNumber, isOperand, RangeTree, HeadTree, RelationTree, ClauseTree, RuleTree, each, ofRange, ofHead, ofRelation, ofClause, ofRule, rightRange, rightHead, rightRelation, rightClause, rightRule}
+use Rattle.grammar.specs.Grammar.{Text, colon, comma, and, or, other, isWord, isNumber, isOperand, RangeTree, HeadTree, RelationTree, ClauseTree, RuleTree, each, ofRange, ofHead, ofRelation, ofClause, ofRule, rightRange, rightHead, rightRelation, rightClause, rightRule}
 use Rattle.grammar.specs.Grammar.RangeTree.{One, Span}
 use Rattle.grammar.specs.Grammar.HeadTree.{Plain, Modulo}
 use Rattle.grammar.specs.Grammar.RelationTree.{Rel}

@@ -5,7 +5,7 @@ use mathlib.Core.List.{List, [], _∷_, _++_, append-assoc, append-nil}
 use Prim.Native.Nat.{ℕ}
 use native.Mathlib.Omega.{arith}
 use Rattle.decimal.specs.Choice.{if_then_else_}
-use Rattle.grammar.specs.Grammar.{Text, all, semi, RuleTree, PackTree, rulesOf, each, ofRule, rightRule, ofPack, rightPack}
+use Rattle.grammar.specs.Grammar.{Text, semi, RuleTree, PackTree, rulesOf, each, ofRule, rightRule, ofPack, rightPack}
 use Rattle.grammar.specs.Grammar.PackTree.{Parted}
 use Rattle.grammar.specs.WellFormed.{texts}
 use Rattle.grammar.specs.Steps.{steps, Read, ends}
@@ -19,6 +19,7 @@ use Rattle.grammar.proofs.Sound.{told-rule}
 use Rattle.grammar.proofs.Complete.{complete}
 use Rattle.grammar.proofs.Viable.{Far, onward, closed, far, outset, far-append, far-rule, whole-alive, alive-before, been, halt, last, behind, same-halt, plain-segments, some-segments, firstOf, othersOf, packEnd, tokensOf}
 use Rattle.decimal.proofs.Choices.{both-in}
+use Rattle.decimal.specs.Lists.{all}
 
 bad-rules : {A : Type 0} {a : ℕ} {rs : List RuleTree} → Bad a ≡ Trees rs → A
 bad-rules e = absurd (let z : _≡_ {A = ℕ} 0 1 = cc in omega arith)

@@ -5,9 +5,10 @@ use mathlib.Core.List.{List, [], _∷_, _++_, map, append-assoc}
 use Prim.Native.Nat.{ℕ}
 use native.Mathlib.Omega.{arith}
 use Rattle.token.proofs.Spellings.{both-0, both-1}
-use Rattle.grammar.specs.Grammar.{Text, all, each}
+use Rattle.grammar.specs.Grammar.{Text, each}
 use Rattle.grammar.specs.Within.{Every}
 use Rattle.decimal.proofs.Choices.{both-in}
+use Rattle.decimal.specs.Lists.{all}
 
 pub no-way : {A : Type 0} → true ≡ false → A
 no-way e = absurd (let z : _≡_ {A = ℕ} 0 1 = cc in omega arith)

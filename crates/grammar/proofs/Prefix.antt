@@ -12,11 +12,12 @@ use borrow.Author.Tests.{ne-eqb, eqb-false, ltb-false}
 use Rattle.decimal.specs.Choice.{if_then_else_, both}
 use Rattle.decimal.specs.Digits.{isDigit, run}
 use Rattle.decimal.proofs.Choices.{not-both, both-in}
+use Rattle.decimal.specs.Lists.{all}
 use Rattle.token.specs.Spelling.{same, starts, lengthOf}
 use Rattle.token.specs.Token.{whites, whiteLen, isWhite, isLetter, letters, dots, differ, tokenLen, pieceLen, Token, tokens}
 use Rattle.token.proofs.Spellings.{both-0, both-1}
 use Rattle.token.proofs.Pieces.{piece, pieced, tokens-turn}
-use Rattle.grammar.specs.Grammar.{Text, all, colon, equal, other}
+use Rattle.grammar.specs.Grammar.{Text, colon, equal, other}
 use Rattle.grammar.specs.WellFormed.{texts, WellFormed, Culprit, Unfinished, PackWith}
 use Rattle.grammar.specs.Segment.{words}
 use Rattle.grammar.specs.Steps.{State}

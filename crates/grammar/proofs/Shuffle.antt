@@ -10,7 +10,7 @@ use borrow.Author.Tests.{eqb-true, eqb-false, eq-eqb, ne-eqb, ltb-false, le-ltb}
 use Rattle.decimal.specs.Split.{onFirst}
 use Rattle.decimal.specs.Choice.{if_then_else_, both}
 use Rattle.token.specs.Spelling.{same, among}
-use Rattle.grammar.specs.Grammar.{Text, all, RuleTree, ofRule, rightRule}
+use Rattle.grammar.specs.Grammar.{Text, RuleTree, ofRule, rightRule}
 use Rattle.grammar.specs.Steps.{steps, Read, ends}
 use Rattle.grammar.specs.Steps.State.{WantsName}
 use Rattle.grammar.specs.Steps.Read.{Whole, Cut}
@@ -31,6 +31,7 @@ use Rattle.grammar.proofs.Sound.{sound}
 use Rattle.grammar.proofs.Complete.{complete}
 use Rattle.grammar.proofs.Places.{words-at, fine-whole, whole-fine, clean, or-0, or-1, none-clean, clean-none, firstOf, keyword-first, fresh, again-fresh, fresh-again}
 use Rattle.decimal.proofs.Choices.{both-in}
+use Rattle.decimal.specs.Lists.{all}
 
 abbrev isWhole : Read → Bool
 isWhole (Whole r) = true

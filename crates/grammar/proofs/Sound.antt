@@ -3,7 +3,7 @@ use mathlib.Core.Path.{_≡_, refl, ap, _∙_}
 use mathlib.Core.Bool.{Bool, true, false, not}
 use mathlib.Core.List.{List, [], _∷_, _++_, append-assoc, append-nil}
 use Rattle.token.specs.Spelling.{same}
-use Rattle.grammar.specs.Grammar.{Text, all, colon, comma, percent, equal, and, or, other, isWord, isNumber, isOperand, RangeTree, HeadTree, RelationTree, ClauseTree, RuleTree, sign, each, ofRange, ofHead, ofRelation, ofClause, ofRule, rightRange, rightHead, rightRelation, rightClause, rightRule}
+use Rattle.grammar.specs.Grammar.{Text, colon, comma, percent, equal, and, or, other, isWord, isNumber, isOperand, RangeTree, HeadTree, RelationTree, ClauseTree, RuleTree, sign, each, ofRange, ofHead, ofRelation, ofClause, ofRule, rightRange, rightHead, rightRelation, rightClause, rightRule}
 use Rattle.token.specs.Token.{differ, dots}
 use Rattle.grammar.specs.Grammar.RangeTree.{One, Span}
 use Rattle.grammar.specs.Grammar.HeadTree.{Plain, Modulo}
@@ -14,6 +14,7 @@ use Rattle.grammar.specs.Steps.{Front, State, goOn, signed, step, steps,
 use Rattle.grammar.specs.Steps.State.{WantsName, WantsColon, WantsNothing, WantsOperand, HasOperand, WantsModulus, HasModulus, WantsValue, HasValue, WantsUpper, HasUpper, Dead}
 use Rattle.grammar.specs.Steps.Read.{Whole, Cut}
 use Rattle.decimal.proofs.Choices.{choice, both-in}
+use Rattle.decimal.specs.Lists.{all}
 use Rattle.token.proofs.Spellings.{same-eq}
 use Rattle.grammar.proofs.Laws.{each-snoc, all-snoc}
 

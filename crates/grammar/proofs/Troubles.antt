@@ -10,10 +10,11 @@ use borrow.Author.Tests.{ltb-true, ltb-false, le-leb, lt-leb, not-true}
 use Rattle.decimal.specs.Choice.{if_then_else_, both, either}
 use Rattle.decimal.specs.Digits.{value}
 use Rattle.decimal.proofs.Choices.{tested}
+use Rattle.decimal.specs.Lists.{all}
 use Rattle.token.specs.Spelling.{same, among}
 use Rattle.token.proofs.Spellings.{both-0, both-1, same-eq}
 use Rattle.grammar.specs.Limits.{maxClauses, maxRelations, maxRanges, maxValue, isModulus, keywords}
-use Rattle.grammar.specs.Grammar.{Text, all, colon, semi, comma, and, or, other, isWord, isNumber, isOperand, RangeTree, HeadTree, RelationTree, ClauseTree, RuleTree, PackTree, nameOf, each, ofRange, ofHead, ofRelation, ofClause, ofRule, ofPack, rightRange, rightHead, rightRelation, rightClause, rightRule, rightPack}
+use Rattle.grammar.specs.Grammar.{Text, colon, semi, comma, and, or, other, isWord, isNumber, isOperand, RangeTree, HeadTree, RelationTree, ClauseTree, RuleTree, PackTree, nameOf, each, ofRange, ofHead, ofRelation, ofClause, ofRule, ofPack, rightRange, rightHead, rightRelation, rightClause, rightRule, rightPack}
 use Rattle.grammar.specs.Grammar.RangeTree.{One, Span}
 use Rattle.grammar.specs.Grammar.HeadTree.{Plain, Modulo}
 use Rattle.grammar.specs.Grammar.RelationTree.{Rel}

@@ -10,7 +10,7 @@ use lib.ListN.{length, take, drop}
 use Rattle.decimal.specs.Split.{onFirst}
 use Rattle.decimal.specs.Choice.{if_then_else_}
 use Rattle.token.specs.Spelling.{same}
-use Rattle.grammar.specs.Grammar.{Text, all, colon, semi, equal, other, RuleTree, PackTree, each, ofRule, rightRule, ofPack, rightPack}
+use Rattle.grammar.specs.Grammar.{Text, colon, semi, equal, other, RuleTree, PackTree, each, ofRule, rightRule, ofPack, rightPack}
 use Rattle.token.specs.Token.{Token, tokensFor, tokens, pieceLen, isWhite}
 use Rattle.grammar.specs.WellFormed.{texts, WellFormed, Begins, Culprit, Unfinished}
 use Rattle.grammar.specs.Grammar.PackTree.{Parted}
@@ -26,6 +26,7 @@ use Rattle.grammar.proofs.Sound.{Reached, reaches, arrives, told-rule}
 use Rattle.grammar.proofs.Complete.{complete}
 use Rattle.grammar.proofs.Places.{dead-stays, dead-is}
 use Rattle.decimal.proofs.Choices.{both-in}
+use Rattle.decimal.specs.Lists.{all}
 
 -- A whole pack read token by token: the rules that are whole, and the state in the one being read.
 pub record Far : Type 0 where

@@ -12,12 +12,13 @@ use Rattle.decimal.specs.Split.{onFirst}
 use Rattle.decimal.specs.Choice.{if_then_else_, both}
 use Rattle.decimal.specs.Digits.{isDigit, run}
 use Rattle.decimal.proofs.Choices.{choice}
+use Rattle.decimal.specs.Lists.{all}
 use Rattle.token.specs.Spelling.{same, among, starts, lengthOf}
 use Rattle.token.specs.Token.{whites, whiteLen, isWhite, isLetter, letters, dots, differ, pieceLen, Token, tokens}
 use Rattle.token.proofs.Spellings.{both-0, both-1}
 use Rattle.token.proofs.Pieces.{piece, pieced, tokens-turn}
 use Rattle.grammar.specs.Limits.{maxBytes}
-use Rattle.grammar.specs.Grammar.{Text, all, semi, colon, comma, percent, equal, and, or, other, isWord, isNumber, isOperand, RangeTree, HeadTree, RuleTree, nameOf, ofRule}
+use Rattle.grammar.specs.Grammar.{Text, semi, colon, comma, percent, equal, and, or, other, isWord, isNumber, isOperand, RangeTree, HeadTree, RuleTree, nameOf, ofRule}
 use Rattle.grammar.specs.Grammar.RangeTree.{One, Span}
 use Rattle.grammar.specs.Grammar.HeadTree.{Plain, Modulo}
 use Rattle.grammar.specs.Grammar.RuleTree.{Bare, Named}

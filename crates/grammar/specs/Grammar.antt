@@ -5,15 +5,12 @@ use Prim.Native.Nat.{ℕ}
 use lib.ListN.{getD}
 use Rattle.decimal.specs.Choice.{if_then_else_, both}
 use Rattle.decimal.specs.Digits.{isDigit}
+use Rattle.decimal.specs.Lists.{all}
 use Rattle.token.specs.Spelling.{same, among}
 use Rattle.token.specs.Token.{isLetter, dots, differ}
 
 abbrev pub Text : Type 0
 Text = List ℕ
-
-abbrev pub all : {A : Type 0} → (A → Bool) → List A → Bool
-all p [] = true
-all p (x ∷ xs) = both (p x) (all p xs)
 
 -- ---- the tokens that stand for themselves; `..` and `!=` are the token crate's
 

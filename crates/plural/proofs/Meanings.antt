@@ -6,11 +6,12 @@ use Prim.Native.Nat.{ℕ, _%_, _+_, _-_, _≤_, _<_}
 use native.Mathlib.Omega.{arith}
 use lib.ListN.{length, List·getD-eq-default}
 use Rattle.decimal.specs.Choice.{if_then_else_, both, either}
+use Rattle.decimal.specs.Lists.{all, any}
 use Rattle.number.specs.declared.Number.{Number}
 use Rattle.rules.specs.Syntax.{Range, Relation, Rule}
 use Rattle.rules.specs.Stretch.{stretch, startAt, Table, clauseAt}
 use Rattle.rules.proofs.Stretches.{stretch-cons, stretch-nil}
-use Rattle.plural.specs.Meaning.{any, all, inRange, operandValue, isWhole, equals, holds, clauseHolds}
+use Rattle.plural.specs.Meaning.{inRange, operandValue, isWhole, equals, holds, clauseHolds}
 use Rattle.plural.specs.Places.{metAt}
 
 -- a number that is not whole is in no list

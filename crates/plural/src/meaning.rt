@@ -2,8 +2,9 @@
 ghost use mathlib.Core.Path.{_≡_};
 ghost use Prim.Native.Nat.{_%_, _≤_, _<_, min};
 ghost use lib.ListN.{getD};
+ghost use Rattle.decimal.specs.Lists.{any};
 ghost use Rattle.rules.specs.Stretch.{startAt, rangesIn, relationBy, table, relationsIn, clausesIn};
-ghost use Rattle.plural.specs.Meaning.{any, inRange, operandValue, isWhole, holds, clauseHolds, conditionHolds};
+ghost use Rattle.plural.specs.Meaning.{inRange, operandValue, isWhole, holds, clauseHolds, conditionHolds};
 use number::Number;
 use rules::Single;
 use rules::single_at;

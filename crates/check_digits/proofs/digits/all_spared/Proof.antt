@@ -2,7 +2,7 @@
 use native.Mathlib.Omega.{arith}
 use mathlib.Core.Path.{refl}
 use Prim.Native.Nat.{ℕ, _-_}
-use Rattle.plural.specs.Meaning.{all}
+use Rattle.decimal.specs.Lists.{all}
 use Rattle.check_laws.specs.Profile.{spares}
 use Rattle.check_digits.proofs.Filling.{values-lt}
 use Rattle.check_digits.proofs.Rounds.{each-digit, Gone, gone-none, gone-all, gone-ended}

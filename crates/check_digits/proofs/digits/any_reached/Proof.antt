@@ -2,7 +2,7 @@
 use native.Mathlib.Omega.{arith}
 use mathlib.Core.Path.{refl}
 use Prim.Native.Nat.{ℕ, _-_}
-use Rattle.plural.specs.Meaning.{any}
+use Rattle.decimal.specs.Lists.{any}
 use Rattle.check_laws.specs.Profile.{reaches}
 use Rattle.check_digits.proofs.Filling.{values-lt}
 use Rattle.check_digits.proofs.Rounds.{no-digit, Gone, gone-none, gone-any, gone-ended}

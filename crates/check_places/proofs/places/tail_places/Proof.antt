@@ -4,8 +4,8 @@ use Prim.Native.Nat.{ℕ, suc, _≤_, _<_, _-_, _+_}
 use native.Mathlib.Numerals.{add-one}
 use mathlib.Core.List.{List}
 use Rattle.number.specs.Limits.{maxPlaces}
-use Rattle.plural.specs.Meaning.{all}
 use Rattle.decimal.specs.Choice.{both}
+use Rattle.decimal.specs.Lists.{all}
 use lib.Dec.{ltb}
 use Prim.Native.Nat.{_^_}
 use Rattle.check_laws.specs.Fast.{settledF}

@@ -1,8 +1,9 @@
 -- `plural::meaning::in_ranges` looks through a stretch of ranges. The invariant: what is left decides as the whole does.
 use mathlib.Core.Path.{_≡_, sym, _∙_}
 use Prim.Native.Nat.{_≤_, _-_}
+use Rattle.decimal.specs.Lists.{any}
 use Rattle.rules.specs.Stretch.{stretch, rangeAt, rangesIn}
-use Rattle.plural.specs.Meaning.{any, inRange}
+use Rattle.plural.specs.Meaning.{inRange}
 use Rattle.plural.proofs.Meanings.{any-found, any-next, any-none}
 use borrow.Author.Needs.{needs}
 use Rattle.plural.proofs.meaning.in_ranges.Statement.{statement}
