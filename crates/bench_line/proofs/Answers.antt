@@ -13,7 +13,7 @@ use Rattle.line.specs.Jobs.{jobAt, jobOf}
 use Rattle.bench_line.specs.Lines.{spaced, refusalText, selectionText, checkText, maxOutput, printedText, formatText, jobText, jobAnswer}
 use Rattle.line.specs.declared.JobCut.{JobCut}
 use Rattle.line.specs.declared.JobCut.the-variants.{SelectAt, CheckAt, FormatAt}
-use Rattle.plural.specs.declared.Selection.{Selection}
+use Rattle.select.specs.declared.Selection.{Selection}
 use Rattle.answer.specs.declared.Refusal.{Refusal}
 use Rattle.answer.specs.declared.Refusal.the-variants.{Print as OfPrint}
 use Rattle.answer.specs.declared.PrintRow.the-variants.{AreaTooShort}
@@ -22,7 +22,7 @@ use Rattle.print.specs.Outcome.Outcome.{text, refused}
 use Rattle.print.specs.declared.Printed.{Printed}
 use Rattle.print.specs.declared.Printed.the-variants.{Text, Refused as PrintRefused}
 use Rattle.decimal.proofs.Choices.{tested, never}
-use Rattle.select.specs.Select.{selectOf}
+use Rattle.select_text.specs.Select.{selectOf}
 use Rattle.check_text.specs.Check.{checkPack}
 use Rattle.check_text.specs.declared.PackCheck.{PackCheck}
 

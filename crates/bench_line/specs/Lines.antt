@@ -11,13 +11,13 @@ use Rattle.answer.specs.Table.{numberOf, figuresOf}
 use Rattle.answer.specs.Words.{spelling}
 use Rattle.answer.specs.declared.Keyword.{Keyword}
 use Rattle.answer.specs.declared.Refusal.{Refusal}
-use Rattle.plural.specs.declared.Selection.{Selection}
-use Rattle.plural.specs.declared.Selection.the-variants.{Word, Refused}
+use Rattle.select.specs.declared.Selection.{Selection}
+use Rattle.select.specs.declared.Selection.the-variants.{Word, Refused}
 use Rattle.answer.specs.declared.Refusal.the-variants.{Print as OfPrint}
 use Rattle.answer.specs.declared.PrintRow.the-variants.{AreaTooShort}
 use Rattle.print.specs.Outcome.{Outcome, outcome}
 use Rattle.print.specs.Outcome.Outcome.{text, refused}
-use Rattle.select.specs.Select.{selectOf}
+use Rattle.select_text.specs.Select.{selectOf}
 use Rattle.check_text.specs.Check.{checkPack}
 use Rattle.check_text.specs.declared.PackCheck.{PackCheck}
 use Rattle.check_text.specs.declared.PackCheck.the-variants.{Passes, Refused as PackRefused}

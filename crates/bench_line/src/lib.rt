@@ -19,8 +19,8 @@ use decimal::num::wide_byte;
 use line::JobCut;
 use line::MAX_LINE;
 use line::read_job;
-use plural::Selection;
 use print::Printed;
+use select::Selection;
 
 // Appends `? ` and a number.
 fn append_unread(out: &mut [u8], at: usize, n: u64) -> usize
@@ -127,7 +127,7 @@ fn append_job(out: &mut [u8], at: usize, line: &[u8]) -> usize
         JobCut::SelectAt(n) => append_selection(
             out,
             at,
-            select::select(
+            select_text::select(
                 decimal::cut::upto(fields, n),
                 decimal::cut::after(decimal::cut::after(fields, n), 1),
             ),

@@ -8,13 +8,13 @@ use Rattle.number.specs.Reading.{readNumber}
 use Rattle.number.specs.declared.Number.{Number}
 use Rattle.number.specs.declared.Reading.{Reading}
 use Rattle.number.specs.declared.Reading.the-variants.{Is}
-use Rattle.plural.specs.declared.Selection.{Selection}
-use Rattle.plural.specs.declared.Selection.the-variants.{Word}
+use Rattle.select.specs.declared.Selection.{Selection}
+use Rattle.select.specs.declared.Selection.the-variants.{Word}
 use Rattle.answer.specs.declared.Refusal.the-variants.{Rules as OfRules}
 use Rattle.answer.specs.declared.RulesRow.the-variants.{RulesClash}
 use Rattle.check_text.specs.Check.{checkPack}
 use Rattle.check_text.specs.declared.PackCheck.the-variants.{Passes, Refused}
-use Rattle.select.specs.Select.{selectOf}
+use Rattle.select_text.specs.Select.{selectOf}
 use Rattle.print.specs.Outcome.{outcome}
 use Rattle.print.specs.Outcome.Outcome.{text}
 

@@ -6,8 +6,8 @@ use native.Mathlib.Omega.{arith}
 use native.Mathlib.Nat.{pow-suc}
 use native.Mathlib.Numerals.{add-one}
 use lib.Pow.{pow-mono}
-use Rattle.plural.specs.Select.{bit, maskOf}
-use Rattle.plural.proofs.Masks.{mask-none, mask-more, mask-fits}
+use Rattle.select.specs.Select.{bit, maskOf}
+use Rattle.select.proofs.Masks.{mask-none, mask-more, mask-fits}
 use Rattle.check_laws.specs.Profile.{valuesOf}
 
 -- the bits of the values below x, and that of x itself

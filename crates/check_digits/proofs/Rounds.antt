@@ -14,7 +14,7 @@ use Rattle.decimal.proofs.Choices.{both-true}
 use Rattle.rules.specs.Syntax.{Range, Relation}
 use Rattle.rules.specs.Stretch.{stretch, rangeAt, rangesIn}
 use Rattle.rules.proofs.Stretches.{stretch-nil, stretch-snoc, stretch-same}
-use Rattle.plural.specs.Select.{maskOf}
+use Rattle.select.specs.Select.{maskOf}
 use Rattle.check_laws.proofs.Seeking.{split, and-true, or-true-left, or-true-right, and-false-left, and-false-right}
 use Rattle.check_laws.specs.Profile.{valuesOf, round, reaches, spares, endsIn}
 use Rattle.check_laws.proofs.Bits.{bits-and, bits-or}

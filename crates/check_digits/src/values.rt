@@ -4,7 +4,7 @@ ghost use mathlib.Core.Bool.{true};
 ghost use Prim.Native.Nat.{suc, _+_, _*_, _≤_, _<_};
 ghost use Rattle.number.specs.Limits.{maxExponent, maxPlaces};
 ghost use Rattle.rules.specs.Stretch.{relationBy};
-ghost use Rattle.plural.specs.Select.{bit};
+ghost use Rattle.select.specs.Select.{bit};
 ghost use Rattle.check_laws.specs.Bounded.{fromTo};
 ghost use Rattle.check_laws.specs.Fast.{test};
 ghost use Rattle.check_laws.specs.Profile.{valuesOf};

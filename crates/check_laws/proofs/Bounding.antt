@@ -12,7 +12,7 @@ use Rattle.decimal.specs.Lists.{all}
 use Rattle.number.specs.Limits.{maxExponent, maxDigits, maxPlaces}
 use Rattle.number.specs.declared.Number.{Number}
 use Rattle.rules.specs.Syntax.{Relation}
-use Rattle.plural.specs.Meaning.{inRange, clauseHolds}
+use Rattle.meaning.specs.Meaning.{inRange, clauseHolds}
 use Rattle.check_laws.proofs.Seeking.{and-false-left, least-one, seek-least}
 use Rattle.check_laws.specs.Bounded.{fromTo, withinPlaces, placesBetween, bounded}
 use Rattle.check_laws.specs.Check.{lowest, admits, numberAt, ranked, ranks, found, leastRank}

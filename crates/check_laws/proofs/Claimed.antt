@@ -14,7 +14,7 @@ use Rattle.decimal.proofs.Choices.{not-both, both-true}
 use Rattle.answer.specs.declared.Witness.{Witness}
 use Rattle.number.specs.declared.Number.{Number}
 use Rattle.rules.specs.Syntax.{Rule}
-use Rattle.plural.specs.Meaning.{meets}
+use Rattle.meaning.specs.Meaning.{meets}
 use Rattle.check_laws.specs.Seek.{Least}
 use Rattle.check_laws.proofs.Seeking.{and-true, seek-least, split}
 use Rattle.check_laws.specs.Check.{numberAt, rank, ranked, admits, ranks, found, leastRank, clashOf, against, firstPair, checkOf}

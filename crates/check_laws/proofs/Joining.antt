@@ -6,7 +6,7 @@ use Prim.Native.Nat.{ℕ, suc}
 use Rattle.decimal.specs.Choice.{both, either}
 use Rattle.number.specs.declared.Number.{Number}
 use Rattle.rules.specs.Syntax.{Relation, Rule}
-use Rattle.plural.specs.Meaning.{holds, clauseHolds, conditionHolds, meets}
+use Rattle.meaning.specs.Meaning.{holds, clauseHolds, conditionHolds, meets}
 use Rattle.check_laws.proofs.Seeking.{least-one, seek-least}
 use Rattle.check_laws.specs.Check.{numberAt, ranked, admits, ranks, found, leastRank, clashOf, named, against, firstPair, checkOf}
 use Rattle.check_laws.specs.Fast.{withEach, bothOf, fastClash, fastCheck}

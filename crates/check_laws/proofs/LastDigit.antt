@@ -12,8 +12,8 @@ use Rattle.decimal.specs.Choice.{if_then_else_, both, either}
 use Rattle.decimal.proofs.Choices.{tested, not-both, both-true}
 use Rattle.decimal.specs.Lists.{all, any}
 use Rattle.rules.specs.Syntax.{Range, Relation}
-use Rattle.plural.specs.Meaning.{inRange}
-use Rattle.plural.specs.Select.{bit}
+use Rattle.meaning.specs.Meaning.{inRange}
+use Rattle.select.specs.Select.{bit}
 use Rattle.check_laws.proofs.Seeking.{split, and-true, or-true-left, or-true-right, and-false-left, and-false-right}
 use Rattle.check_laws.specs.Fast.{listed, test, asked, factor, passes, passesAll, ends, queryI}
 use Rattle.check_laws.specs.Floors.{Under, raised}

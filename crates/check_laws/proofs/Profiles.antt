@@ -19,8 +19,8 @@ use Rattle.number.specs.Limits.{maxExponent, maxPlaces}
 use Rattle.rules.specs.Syntax.{Relation}
 use Rattle.rules.specs.Stretch.{stretch, startAt, Table, relationsIn, clauseAt}
 use Rattle.rules.proofs.Stretches.{stretch-same}
-use Rattle.plural.specs.Select.{bit, maskOf}
-use Rattle.plural.proofs.Masks.{mask-fits}
+use Rattle.select.specs.Select.{bit, maskOf}
+use Rattle.select.proofs.Masks.{mask-fits}
 use Rattle.check_laws.specs.Seek.{seek}
 use Rattle.check_laws.proofs.Seeking.{split, and-false-left, and-false-right}
 use Rattle.check_laws.specs.Bounded.{fromTo, placesBetween, bounded}

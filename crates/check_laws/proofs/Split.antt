@@ -13,7 +13,7 @@ use Rattle.decimal.proofs.Values.{power-pos}
 use Rattle.decimal.specs.Lists.{all, any}
 use Rattle.number.specs.declared.Number.{Number}
 use Rattle.rules.specs.Syntax.{Range, Relation}
-use Rattle.plural.specs.Meaning.{inRange, holds, clauseHolds}
+use Rattle.meaning.specs.Meaning.{inRange, holds, clauseHolds}
 use Rattle.check_laws.specs.Fast.{listed, test, factor, passes, queryI, queryT, ofExponent, settledE, settledV, settledW, settledF}
 
 -- a number with these operands, of which w is 0 exactly where f is

@@ -9,7 +9,7 @@ use Rattle.number.specs.Limits.{maxExponent, maxDigits, maxPlaces}
 use Rattle.number.specs.Admitted.{numberFrom}
 use Rattle.number.specs.declared.Number.{Number}
 use Rattle.rules.specs.Syntax.{Rule}
-use Rattle.plural.specs.Meaning.{meets}
+use Rattle.meaning.specs.Meaning.{meets}
 use Rattle.check_laws.specs.Seek.{seek}
 use Rattle.check_laws.specs.declared.Checked.{Checked}
 use Rattle.check_laws.specs.declared.Checked.the-variants.{Passes, Clashes}

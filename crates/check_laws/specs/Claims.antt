@@ -9,7 +9,7 @@ use Rattle.answer.specs.declared.Keyword.the-variants.{Other}
 use Rattle.answer.specs.declared.Witness.{Witness}
 use Rattle.number.specs.Admitted.{Admitted}
 use Rattle.rules.specs.Syntax.{Rule}
-use Rattle.plural.specs.Meaning.{meets}
+use Rattle.meaning.specs.Meaning.{meets}
 use Rattle.check_laws.specs.Check.{numberAt}
 use Rattle.check_laws.specs.declared.Checked.{Checked}
 use Rattle.check_laws.specs.declared.Checked.the-variants.{Passes, Clashes}

@@ -11,7 +11,7 @@ use Rattle.decimal.specs.Lists.{all, any}
 use Rattle.number.specs.Limits.{maxExponent, maxPlaces}
 use Rattle.rules.specs.Syntax.{Range, Relation}
 use Rattle.rules.specs.Stretch.{stretch, Table, clauseAt}
-use Rattle.plural.specs.Select.{maskOf}
+use Rattle.select.specs.Select.{maskOf}
 use Rattle.check_laws.specs.Seek.{seek}
 use Rattle.check_laws.specs.Fast.{passes, asked, queryI, queryT, settledE, settledV, settledW, settledF}
 

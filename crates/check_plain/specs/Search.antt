@@ -8,7 +8,7 @@ use Rattle.answer.specs.declared.Witness.{Witness}
 use Rattle.number.specs.Limits.{maxExponent, maxDigits, maxPlaces}
 use Rattle.number.specs.declared.Number.{Number}
 use Rattle.rules.specs.Stretch.{Table}
-use Rattle.plural.specs.Places.{metAt}
+use Rattle.meaning.specs.Places.{metAt}
 use Rattle.check_laws.specs.Seek.{Least}
 use Rattle.check_laws.specs.Check.{block, found}
 use Rattle.check_laws.specs.Spots.{spotRank, Proper}

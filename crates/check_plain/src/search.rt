@@ -39,10 +39,10 @@ fn meets_both<'a>(
 ) -> bool
     ensures { λ r. ⌜ r ≡ meetsBoth (table (now (columns .entry)) (now (low .entry)) (now (high .entry))) (now (relations .entry)) (now (clauses .entry)) first second x ⌝ }
 {
-    if !plural::meets_held(columns, low, high, relations, clauses, first, x) {
+    if !select::meets_held(columns, low, high, relations, clauses, first, x) {
         return false;
     }
-    plural::meets_held(columns, low, high, relations, clauses, second, x)
+    select::meets_held(columns, low, high, relations, clauses, second, x)
 }
 
 // Every f below 10^v.

@@ -12,7 +12,7 @@ use Rattle.decimal.specs.Choice.{if_then_else_, both}
 use Rattle.decimal.proofs.Choices.{tested, choice, both-true}
 use Rattle.decimal.specs.Lists.{any}
 use Rattle.rules.specs.Syntax.{Range, Relation}
-use Rattle.plural.specs.Meaning.{inRange}
+use Rattle.meaning.specs.Meaning.{inRange}
 use Rattle.check_laws.specs.Seek.{Alike}
 use Rattle.check_laws.proofs.Seeking.{split}
 use Rattle.check_laws.specs.Fast.{listed, test, factor, asked, passes}

@@ -14,7 +14,7 @@ use Rattle.decimal.specs.Lists.{all, any}
 use Rattle.rules.specs.Syntax.{Range}
 use Rattle.rules.specs.Stretch.{stretch, rangeAt, rangesIn}
 use Rattle.rules.proofs.Stretches.{stretch-snoc}
-use Rattle.plural.specs.Meaning.{inRange}
+use Rattle.meaning.specs.Meaning.{inRange}
 use Rattle.check_laws.specs.Seek.{Alike}
 use Rattle.check_laws.proofs.Seeking.{and-true, and-false-left, and-false-right, or-false, or-true-left, or-true-right}
 use Rattle.check_laws.specs.Read.{cap}

@@ -2,7 +2,7 @@
 ghost use mathlib.Core.Path.{_≡_};
 ghost use Prim.Native.Nat.{ℕ, _+_, _≤_, _<_, min, max};
 ghost use Rattle.decimal.specs.Lists.{any};
-ghost use Rattle.plural.specs.Meaning.{inRange};
+ghost use Rattle.meaning.specs.Meaning.{inRange};
 ghost use Rattle.rules.specs.Stretch.{rangesIn};
 ghost use Rattle.check_laws.specs.Seek.{Alike};
 ghost use Rattle.check_laws.specs.Read.{cap};

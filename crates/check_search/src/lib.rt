@@ -12,7 +12,7 @@ ghost use Prim.Native.Nat.{_^_, _≤_};
 ghost use Rattle.decimal.specs.Choice.{both};
 ghost use Rattle.number.specs.Limits.{maxDigits, maxPlaces};
 ghost use Rattle.number.specs.declared.Number.{Number};
-ghost use Rattle.plural.specs.Meaning.{clauseHolds};
+ghost use Rattle.meaning.specs.Meaning.{clauseHolds};
 ghost use Rattle.rules.specs.Stretch.{table};
 ghost use Rattle.check_laws.specs.Bounded.{withinPlaces};
 ghost use Rattle.check_laws.specs.Check.{leastRank};

@@ -28,11 +28,11 @@ use Rattle.number.specs.declared.Reading.the-variants.{Is as NumberIs, Refused 
 use Rattle.rules.specs.Syntax.{Rule}
 use Rattle.grammar.specs.Reader.{PackAnswer, rowOf}
 use Rattle.grammar.specs.Reader.PackAnswer.{Rules, Refused as PackRefused}
-use Rattle.plural.specs.Words.{Chosen}
-use Rattle.plural.specs.Words.Chosen.{none, one, two}
-use Rattle.plural.specs.declared.Selection.{Selection}
-use Rattle.plural.specs.declared.Selection.the-variants.{Word, Refused as SelectionRefused}
-use Rattle.select.specs.Select.{selectOf}
+use Rattle.select.specs.Words.{Chosen}
+use Rattle.select.specs.Words.Chosen.{none, one, two}
+use Rattle.select.specs.declared.Selection.{Selection}
+use Rattle.select.specs.declared.Selection.the-variants.{Word, Refused as SelectionRefused}
+use Rattle.select_text.specs.Select.{selectOf}
 use Rattle.check_text.specs.Check.{checkPack}
 use Rattle.check_text.specs.declared.PackCheck.{PackCheck}
 use Rattle.check_text.specs.declared.PackCheck.the-variants.{Passes, Refused as CheckRefused}

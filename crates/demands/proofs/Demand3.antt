@@ -1,6 +1,6 @@
 -- Demand 3: "The pack check passes exactly when no admitted number meets two rules; otherwise it names the first pair and the least number. Shuffling
 -- a passed pack changes no answer; adding rules changes only words that were "other"." Stated on bytes, over the definitions that the contracts of
--- `check_text::check` and `select::select` cite.
+-- `check_text::check` and `select_text::select` cite.
 use mathlib.Core.Path.{_≡_, refl, sym, ap, _∙_, subst}
 use mathlib.Core.Bool.{Bool, true, false}
 use mathlib.Core.List.{List, [], _∷_, _++_, map, List·Permᴰ}
@@ -29,12 +29,12 @@ use Rattle.grammar.specs.Reader.{PackAnswer, readPack, segments}
 use Rattle.grammar.specs.Reader.PackAnswer.{Rules, Refused as PackRefused}
 use Rattle.grammar.specs.Segment.{AreRules, segmentRule}
 use Rattle.grammar.proofs.Shuffle.{perm-rules, rules-are, added-rules as read-added, shuffle as read-shuffle, larger as read-larger}
-use Rattle.plural.specs.Meaning.{meets}
-use Rattle.plural.specs.Select.{metBy, countMet, firstMet, secondMet, keywordAt, selection}
-use Rattle.plural.specs.Words.{MeetsAt}
-use Rattle.plural.specs.declared.Selection.{Selection}
-use Rattle.plural.specs.declared.Selection.the-variants.{Word}
-use Rattle.plural.proofs.Chosen.{counted, behind-counted, first-le, first-meets, second-meets, met-sign}
+use Rattle.meaning.specs.Meaning.{meets}
+use Rattle.select.specs.Select.{metBy, countMet, firstMet, secondMet, keywordAt, selection}
+use Rattle.select.specs.Words.{MeetsAt}
+use Rattle.select.specs.declared.Selection.{Selection}
+use Rattle.select.specs.declared.Selection.the-variants.{Word}
+use Rattle.select.proofs.Chosen.{counted, behind-counted, first-le, first-meets, second-meets, met-sign}
 use Rattle.check_laws.specs.Check.{numberAt, checkOf}
 use Rattle.check_laws.specs.Claims.{IsAdmitted, MeetsBoth, Apart, ruleAt, AllApart, Lowest, Claims}
 use Rattle.check_laws.specs.declared.Checked.{Checked}
@@ -43,7 +43,7 @@ use Rattle.check_laws.proofs.Claimed.{check-claims, passes-apart, apart-passes}
 use Rattle.check_text.specs.Check.{checkedBy, checkRules, checkPack}
 use Rattle.check_text.specs.declared.PackCheck.{PackCheck}
 use Rattle.check_text.specs.declared.PackCheck.the-variants.{Passes, Refused}
-use Rattle.select.specs.Select.{selectNumber, selectRules, selectOf}
+use Rattle.select_text.specs.Select.{selectNumber, selectRules, selectOf}
 use Rattle.demands.specs.Verdicts.{NumberVerdict, PackVerdict, SelectVerdict}
 use Rattle.demands.specs.Packs.{Passed, Shuffle, Larger, MeetsAdded, Grown}
 use Rattle.demands.proofs.Given.{number-given, number-found, pack-given, select-given, select-found}

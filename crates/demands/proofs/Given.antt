@@ -31,11 +31,11 @@ use Rattle.grammar.specs.Reader.Parsed.{Trees, Bad}
 use Rattle.grammar.specs.Reader.Fault.{None, At}
 use Rattle.grammar.specs.Reader.PackAnswer.{Rules, Refused as PackRefused}
 use Rattle.grammar.proofs.Table.{row-20, row-21, rows-22-26, read-rules}
-use Rattle.plural.specs.Select.{selection}
-use Rattle.plural.specs.declared.Selection.{Selection}
-use Rattle.plural.specs.declared.Selection.the-variants.{Refused as SelectionRefused}
-use Rattle.plural.proofs.Chosen.{told, only-told}
-use Rattle.select.specs.Select.{selectNumber, selectRules, selectOf}
+use Rattle.select.specs.Select.{selection}
+use Rattle.select.specs.declared.Selection.{Selection}
+use Rattle.select.specs.declared.Selection.the-variants.{Refused as SelectionRefused}
+use Rattle.select.proofs.Chosen.{told, only-told}
+use Rattle.select_text.specs.Select.{selectNumber, selectRules, selectOf}
 use Rattle.check_laws.specs.Check.{checkOf}
 use Rattle.check_laws.specs.Claims.{AllApart, Before, Claims, Lowest}
 use Rattle.check_laws.specs.declared.Checked.{Checked}

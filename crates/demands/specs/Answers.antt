@@ -8,8 +8,8 @@ use Rattle.number.specs.declared.Number.{Number}
 use Rattle.number.specs.declared.Reading.the-variants.{Is as NumberIs}
 use Rattle.rules.specs.Syntax.{Rule}
 use Rattle.grammar.specs.Reader.PackAnswer.{Rules}
-use Rattle.plural.specs.Words.{Chosen}
-use Rattle.plural.specs.declared.Selection.the-variants.{Word}
+use Rattle.select.specs.Words.{Chosen}
+use Rattle.select.specs.declared.Selection.the-variants.{Word}
 use Rattle.pattern.specs.declared.Pattern.{Pattern}
 use Rattle.demands.specs.Verdicts.{NumberVerdict, PackVerdict, Printable}
 

@@ -8,10 +8,10 @@ use Rattle.number.specs.declared.Number.{Number}
 use Rattle.number.specs.declared.Reading.the-variants.{Is as NumberIs}
 use Rattle.rules.specs.Syntax.{Rule}
 use Rattle.grammar.specs.Reader.{segments}
-use Rattle.plural.specs.Words.{MeetsAt}
-use Rattle.plural.specs.declared.Selection.{Selection}
-use Rattle.plural.specs.declared.Selection.the-variants.{Word}
-use Rattle.select.specs.Select.{selectOf}
+use Rattle.select.specs.Words.{MeetsAt}
+use Rattle.select.specs.declared.Selection.{Selection}
+use Rattle.select.specs.declared.Selection.the-variants.{Word}
+use Rattle.select_text.specs.Select.{selectOf}
 use Rattle.check_text.specs.Check.{checkPack}
 use Rattle.check_text.specs.declared.PackCheck.the-variants.{Passes}
 use Rattle.demands.specs.Verdicts.{NumberVerdict, SelectVerdict}

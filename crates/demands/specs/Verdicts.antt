@@ -26,9 +26,9 @@ use Rattle.grammar.specs.Reader.{PackAnswer, refusedAt, rowOf}
 use Rattle.grammar.specs.Reader.PackAnswer.{Rules, Refused as PackRefused}
 use Rattle.grammar.specs.WellFormed.{Culprit, Unfinished}
 use Rattle.grammar.specs.Falls.{Faulty, Tree}
-use Rattle.plural.specs.Words.{Chosen}
-use Rattle.plural.specs.declared.Selection.{Selection}
-use Rattle.plural.specs.declared.Selection.the-variants.{Refused as SelectionRefused}
+use Rattle.select.specs.Words.{Chosen}
+use Rattle.select.specs.declared.Selection.{Selection}
+use Rattle.select.specs.declared.Selection.the-variants.{Refused as SelectionRefused}
 use Rattle.check_laws.specs.Claims.{AllApart, Lowest}
 use Rattle.check_text.specs.declared.PackCheck.{PackCheck}
 use Rattle.check_text.specs.declared.PackCheck.the-variants.{Passes, Refused as CheckRefused}

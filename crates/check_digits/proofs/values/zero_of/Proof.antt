@@ -1,7 +1,7 @@
 -- `check_digits::values::zero_of`: 1 or 0.
 use native.Mathlib.Omega.{arith}
 use mathlib.Core.Path.{ap, sym, _∙_}
-use Rattle.plural.specs.Select.{bit}
+use Rattle.select.specs.Select.{bit}
 use borrow.Author.Needs.{needs}
 use Rattle.check_digits.proofs.values.zero_of.Statement.{statement}
 use Rattle.check_digits.proofs.values.zero_of.Tie as tie

@@ -6,7 +6,7 @@ use mathlib.Core.Path.{_≡_, sym, ap, _∙_}
 use borrow.Author.Tests.{not-true, not-false}
 use Rattle.rules.specs.Syntax.{Relation}
 use Rattle.rules.specs.declared.Single.{Single}
-use Rattle.plural.proofs.Meanings.{all-failed, all-next, all-passed}
+use Rattle.meaning.proofs.Meanings.{all-failed, all-next, all-passed}
 use Rattle.check_laws.specs.Fast.{passes, passesAll}
 use Rattle.check_laws.specs.Read.{joinedIn}
 use Rattle.check_runs.specs.Kept.{sizeOf}
