@@ -148,28 +148,31 @@ markAfter m stop row at =
       place = if eqb (m .row) 0 then at else m .place;
     }
 
--- ---- what a token does in the phase p, closing x and before the phase q
+-- ---- what a token does
 
-abbrev pub stepBy : Phase → Closes → Phase → Text → ℕ → List ℕ → Walk → Step
-stepBy p x q t at keys w =
-    let v = valueAt p t in
+-- the walk behind a token of the value v, which closes x
+abbrev pub walkAfter : ℕ → Closes → Text → ℕ → List ℕ → Walk → Walk
+walkAfter v x t at keys w =
+    let p = w .phase in
     let key = keyAfter p t (w .current .key) in
     record {
-      walk = record {
-        phase = q;
-        counts = countsAfter (w .counts) (samePhase p Value) x;
-        current = currentAfter (w .current) p t v key;
-        mark =
-            markAfter (w .mark) (stopAfter p (w .mark .stop) at)
-            (rowAt p key (held key (take (w .counts .rules) keys)) v (w .counts) (w .current .low)) at;
-      };
-      value = v;
-      closes = x;
-      starts = samePhase p Value;
-      ends = samePhase p Upper;
+      phase = nextPhase p (w .current .other) t;
+      counts = countsAfter (w .counts) (samePhase p Value) x;
+      current = currentAfter (w .current) p t v key;
+      mark =
+          markAfter (w .mark) (stopAfter p (w .mark .stop) at)
+          (rowAt p key (held key (take (w .counts .rules) keys)) v (w .counts) (w .current .low)) at;
     }
 
 abbrev pub stepAfter : Text → ℕ → List ℕ → Walk → Step
 stepAfter t at keys w =
     let p = w .phase in
-    stepBy p (closesAt p t) (nextPhase p (w .current .other) t) t at keys w
+    let v = valueAt p t in
+    let x = closesAt p t in
+    record {
+      walk = walkAfter v x t at keys w;
+      value = v;
+      closes = x;
+      starts = samePhase p Value;
+      ends = samePhase p Upper;
+    }

@@ -3,17 +3,21 @@
 //
 // specs/Steps.antt has the change as definitions; the functions are those. Every function is total.
 ghost use mathlib.Core.Path.{_≡_};
-ghost use mathlib.Core.List.{[]};
 ghost use lib.ListN.{take};
 ghost use Rattle.decimal.specs.Choice.{if_then_else_, either};
 ghost use Rattle.token.specs.Spelling.{same};
 ghost use Rattle.grammar.specs.Grammar.{other};
 ghost use Rattle.grammar.specs.Limits.{isModulus};
-ghost use Rattle.walk.specs.Steps.{capped, keywordNumber, held, moreOf, moreIf, zeroIf, nothing, endsBare, endsRelation, countsAfter, currentAfter, nameRow, operandRow, valueRow, upperRow, markAfter, stepBy, stepAfter};
+ghost use Rattle.walk.specs.Steps.{capped, valueAt, keywordNumber, held, moreIf, closesAt, countsAfter, keyAfter, currentAfter, nameRow, operandRow, valueRow, upperRow, rowAt, stopAfter, markAfter, walkAfter, stepAfter};
 use decimal::cut::upto;
 use decimal::value::value_of;
 use phase::Phase;
+use phase::is_and;
+use phase::is_byte;
+use phase::is_pair;
 use phase::next_phase;
+use phase::number;
+use phase::same_phase;
 use token::first_byte;
 use token::same_text;
 
@@ -82,13 +86,46 @@ const MAX_RANGES: usize = 16;
 
 const MAX_VALUE: u32 = 999_999;
 
+// The numbers of phases.
+const NAME: u8 = 0;
+
+const NOTHING: u8 = 2;
+
+const OPERAND: u8 = 3;
+
+const MODULUS_OR_SIGN: u8 = 4;
+
+const MODULUS: u8 = 5;
+
+const SIGN: u8 = 6;
+
+const VALUE: u8 = 7;
+
+const DOTS_OR_MORE: u8 = 8;
+
+const UPPER: u8 = 9;
+
+const MORE: u8 = 10;
+
 fn or_either(a: bool, b: bool) -> bool
     ensures { λ r. ⌜ r ≡ either a b ⌝ }
 {
     if a { true } else { b }
 }
 
+fn pick_test(b: bool, x: bool, y: bool) -> bool
+    ensures { λ r. ⌜ r ≡ (if b then x else y) ⌝ }
+{
+    if b { x } else { y }
+}
+
 fn pick_byte(b: bool, x: u8, y: u8) -> u8
+    ensures { λ r. ⌜ r ≡ (if b then x else y) ⌝ }
+{
+    if b { x } else { y }
+}
+
+fn pick_number(b: bool, x: u32, y: u32) -> u32
     ensures { λ r. ⌜ r ≡ (if b then x else y) ⌝ }
 {
     if b { x } else { y }
@@ -101,7 +138,7 @@ fn pick_place(b: bool, x: usize, y: usize) -> usize
 }
 
 // The value of the token, exact up to 1,000,000.
-pub fn capped_value(t: &[u8]) -> u32
+fn capped_value(t: &[u8]) -> u32
     ensures { λ r. ⌜ r ≡ capped (now (t .entry)) ⌝ }
 {
     let v = value_of(t);
@@ -109,6 +146,23 @@ pub fn capped_value(t: &[u8]) -> u32
         return v as u32;
     }
     1_000_001
+}
+
+// That value where the phase has a number next, else 0.
+fn value_at(p: Phase, t: &[u8]) -> u32
+    ensures { λ r. ⌜ r ≡ valueAt p (now (t .entry)) ⌝ }
+{
+    let k = number(p);
+    if k == MODULUS {
+        return capped_value(t);
+    }
+    if k == VALUE {
+        return capped_value(t);
+    }
+    if k == UPPER {
+        return capped_value(t);
+    }
+    0
 }
 
 fn number_if(t: &[u8], w: &[u8], n: u8, otherwise: u8) -> u8
@@ -131,6 +185,16 @@ fn keyword_number(t: &[u8]) -> u8
     number_if(t, b"zero", 0, e)
 }
 
+// The number of the keyword t where the phase has a keyword next, else the one before.
+fn key_after(p: Phase, t: &[u8], old: u8) -> u8
+    ensures { λ r. ⌜ r ≡ keyAfter p (now (t .entry)) old ⌝ }
+{
+    if same_phase(p, Phase::Name) {
+        return keyword_number(t);
+    }
+    old
+}
+
 // The key is one of the first n.
 fn held_before(keys: &[u8], n: usize, key: u8) -> bool
     ensures { λ r. ⌜ r ≡ held key (take n (now (keys .entry))) ⌝ }
@@ -146,33 +210,38 @@ fn held_before(keys: &[u8], n: usize, key: u8) -> bool
     false
 }
 
-fn more(n: usize) -> usize
-    ensures { λ r. ⌜ r ≡ moreOf n ⌝ }
-{
-    if n < MAX_BYTES {
-        return n + 1;
-    }
-    n
-}
-
 fn more_if(b: bool, n: usize) -> usize
     ensures { λ r. ⌜ r ≡ moreIf b n ⌝ }
 {
     if b {
-        return more(n);
+        if n < MAX_BYTES {
+            return n + 1;
+        }
     }
     n
 }
 
-fn zero_if(b: bool, n: usize) -> usize
-    ensures { λ r. ⌜ r ≡ zeroIf b n ⌝ }
+// What a token closes.
+fn closes_at(p: Phase, t: &[u8]) -> Closes
+    ensures { λ r. ⌜ r ≡ closesAt p (now (t .entry)) ⌝ }
 {
-    if b { 0 } else { n }
-}
-
-fn none() -> Closes
-    ensures { λ r. ⌜ r ≡ nothing ⌝ }
-{
+    let k = number(p);
+    if or_either(k == DOTS_OR_MORE, k == MORE) {
+        let c = is_byte(t, b';');
+        let b = or_either(is_pair(t, b'o', b'r'), c);
+        return Closes {
+            relation: or_either(is_and(t), b),
+            clause: b,
+            rule: c,
+        };
+    }
+    if k == NOTHING {
+        return Closes {
+            relation: false,
+            clause: false,
+            rule: is_byte(t, b';'),
+        };
+    }
     Closes {
         relation: false,
         clause: false,
@@ -180,33 +249,8 @@ fn none() -> Closes
     }
 }
 
-// What a token closes behind `other:`.
-fn ends_bare(t: &[u8]) -> Closes
-    ensures { λ r. ⌜ r ≡ endsBare (now (t .entry)) ⌝ }
-{
-    Closes {
-        relation: false,
-        clause: false,
-        rule: same_text(t, b";"),
-    }
-}
-
-// What a token closes behind a value or range.
-fn ends_relation(t: &[u8]) -> Closes
-    ensures { λ r. ⌜ r ≡ endsRelation (now (t .entry)) ⌝ }
-{
-    let c = same_text(t, b";");
-    let b = or_either(same_text(t, b"or"), c);
-    let a = or_either(same_text(t, b"and"), b);
-    Closes {
-        relation: a,
-        clause: b,
-        rule: c,
-    }
-}
-
 // The counts behind a token, count by count.
-fn counts_each(c: Counts, value: bool, x: Closes) -> Counts
+fn counts_after(c: Counts, value: bool, x: Closes) -> Counts
     ensures { λ r. ⌜ r ≡ countsAfter c value x ⌝ }
 {
     Counts {
@@ -214,9 +258,9 @@ fn counts_each(c: Counts, value: bool, x: Closes) -> Counts
         relations: more_if(x.relation, c.relations),
         clauses: more_if(x.clause, c.clauses),
         rules: more_if(x.rule, c.rules),
-        values: zero_if(x.relation, more_if(value, c.values)),
-        joined: zero_if(x.clause, more_if(x.relation, c.joined)),
-        parted: zero_if(x.rule, more_if(x.clause, c.parted)),
+        values: pick_place(x.relation, 0, more_if(value, c.values)),
+        joined: pick_place(x.clause, 0, more_if(x.relation, c.joined)),
+        parted: pick_place(x.rule, 0, more_if(x.clause, c.parted)),
     }
 }
 
@@ -269,13 +313,45 @@ fn upper_row(v: u32, low: u32) -> u8
     pick_byte(v < low, 24, 0)
 }
 
-fn mark_after(m: Mark, stop: usize, row: u8, at: usize) -> Mark
-    ensures { λ r. ⌜ r ≡ markAfter m stop row at ⌝ }
+// 22 to 26 of the token, else 0; `keys`: the keyword numbers of the rules so far.
+fn row_at(p: Phase, key: u8, keys: &[u8], v: u32, c: Counts, low: u32) -> u8
+    ensures { λ r. ⌜ r ≡ rowAt p key (held key (take (c .rules) (now (keys .entry)))) v c low ⌝ }
 {
+    let k = number(p);
+    if k == NAME {
+        return name_row(key, held_before(keys, c.rules, key));
+    }
+    if k == OPERAND {
+        return operand_row(c.parted, c.joined);
+    }
+    if k == MODULUS {
+        return pick_byte(is_modulus(v), 0, 23);
+    }
+    if k == VALUE {
+        return value_row(v, c.values);
+    }
+    if k == UPPER {
+        return upper_row(v, low);
+    }
+    0
+}
+
+// The place of the last token before nothing could follow, and the first fault.
+fn mark_after(p: Phase, m: Mark, row: u8, at: usize) -> Mark
+    ensures { λ r. ⌜ r ≡ markAfter m (stopAfter p (m .stop) at) row at ⌝ }
+{
+    let stop = pick_place(same_phase(p, Phase::Dead), m.stop, at);
+    if m.row == 0 {
+        return Mark {
+            stop: stop,
+            row: row,
+            place: at,
+        };
+    }
     Mark {
         stop: stop,
-        row: pick_byte(m.row == 0, row, m.row),
-        place: pick_place(m.row == 0, at, m.place),
+        row: m.row,
+        place: m.place,
     }
 }
 
@@ -285,244 +361,40 @@ fn is_other(t: &[u8]) -> bool
     same_text(t, b"other")
 }
 
-// What is being read, but for whether the token is `other`.
-fn kept(o: Current, t: &[u8]) -> Current
-    ensures { λ r. ⌜ r ≡ currentAfter o Phase.Colon (now (t .entry)) 0 (o .key) ⌝ }
+// What is being read behind the token t of the value v.
+fn current_after(o: Current, p: Phase, t: &[u8], v: u32) -> Current
+    ensures { λ r. ⌜ r ≡ currentAfter o p (now (t .entry)) v (keyAfter p (now (t .entry)) (o .key)) ⌝ }
 {
+    let k = number(p);
     Current {
-        key: o.key,
-        operand: o.operand,
-        modulus: o.modulus,
-        negated: o.negated,
-        low: o.low,
+        key: key_after(p, t, o.key),
+        operand: pick_byte(k == OPERAND, first_byte(t), o.operand),
+        modulus: pick_number(k == OPERAND, 0, pick_number(k == MODULUS, v, o.modulus)),
+        negated: pick_test(
+            or_either(k == MODULUS_OR_SIGN, k == SIGN),
+            is_pair(t, b'!', b'='),
+            o.negated,
+        ),
+        low: pick_number(k == VALUE, v, o.low),
         other: is_other(t),
     }
 }
 
-// A keyword; `keys`: the keyword numbers of the rules so far.
-fn at_name(q: Phase, t: &[u8], at: usize, keys: &[u8], w: Walk) -> Step
-    ensures { λ r. ⌜ r ≡ stepBy Phase.Name nothing q (now (t .entry)) at (now (keys .entry)) w ⌝ }
+// The walk behind a token of the value v, which closes x.
+fn walk_after(v: u32, x: Closes, t: &[u8], at: usize, keys: &[u8], w: Walk) -> Walk
+    ensures { λ r. ⌜ r ≡ walkAfter v x (now (t .entry)) at (now (keys .entry)) w ⌝ }
 {
+    let p = w.phase;
     let c = w.counts;
     let o = w.current;
     let m = w.mark;
-    let key = keyword_number(t);
-    let again = held_before(keys, c.rules, key);
-    Step {
-        walk: Walk {
-            phase: q,
-            counts: c,
-            current: Current {
-                key: key,
-                operand: o.operand,
-                modulus: o.modulus,
-                negated: o.negated,
-                low: o.low,
-                other: is_other(t),
-            },
-            mark: mark_after(m, at, name_row(key, again), at),
-        },
-        value: 0,
-        closes: none(),
-        starts: false,
-        ends: false,
-    }
-}
-
-// `:`, which changes nothing but the phase.
-fn at_colon(q: Phase, t: &[u8], at: usize, w: Walk) -> Step
-    ensures { λ r. ⌜ r ≡ stepBy Phase.Colon nothing q (now (t .entry)) at [] w ⌝ }
-{
-    let c = w.counts;
-    let o = w.current;
-    let m = w.mark;
-    Step {
-        walk: Walk {
-            phase: q,
-            counts: c,
-            current: kept(o, t),
-            mark: mark_after(m, at, 0, at),
-        },
-        value: 0,
-        closes: none(),
-        starts: false,
-        ends: false,
-    }
-}
-
-fn at_operand(q: Phase, t: &[u8], at: usize, w: Walk) -> Step
-    ensures { λ r. ⌜ r ≡ stepBy Phase.Operand nothing q (now (t .entry)) at [] w ⌝ }
-{
-    let c = w.counts;
-    let o = w.current;
-    let m = w.mark;
-    Step {
-        walk: Walk {
-            phase: q,
-            counts: c,
-            current: Current {
-                key: o.key,
-                operand: first_byte(t),
-                modulus: 0,
-                negated: o.negated,
-                low: o.low,
-                other: is_other(t),
-            },
-            mark: mark_after(m, at, operand_row(c.parted, c.joined), at),
-        },
-        value: 0,
-        closes: none(),
-        starts: false,
-        ends: false,
-    }
-}
-
-// `%`, `=` or `!=`.
-fn at_sign(q: Phase, t: &[u8], at: usize, w: Walk) -> Step
-    ensures { λ r. ⌜ r ≡ stepBy Phase.ModulusOrSign nothing q (now (t .entry)) at [] w ⌝ }
-{
-    let c = w.counts;
-    let o = w.current;
-    let m = w.mark;
-    Step {
-        walk: Walk {
-            phase: q,
-            counts: c,
-            current: Current {
-                key: o.key,
-                operand: o.operand,
-                modulus: o.modulus,
-                negated: same_text(t, b"!="),
-                low: o.low,
-                other: is_other(t),
-            },
-            mark: mark_after(m, at, 0, at),
-        },
-        value: 0,
-        closes: none(),
-        starts: false,
-        ends: false,
-    }
-}
-
-fn at_modulus(q: Phase, t: &[u8], at: usize, w: Walk) -> Step
-    ensures { λ r. ⌜ r ≡ stepBy Phase.Modulus nothing q (now (t .entry)) at [] w ⌝ }
-{
-    let c = w.counts;
-    let o = w.current;
-    let m = w.mark;
-    let v = capped_value(t);
-    Step {
-        walk: Walk {
-            phase: q,
-            counts: c,
-            current: Current {
-                key: o.key,
-                operand: o.operand,
-                modulus: v,
-                negated: o.negated,
-                low: o.low,
-                other: is_other(t),
-            },
-            mark: mark_after(m, at, pick_byte(is_modulus(v), 0, 23), at),
-        },
-        value: v,
-        closes: none(),
-        starts: false,
-        ends: false,
-    }
-}
-
-// A value, which starts a range.
-fn at_value(q: Phase, t: &[u8], at: usize, w: Walk) -> Step
-    ensures { λ r. ⌜ r ≡ stepBy Phase.Value nothing q (now (t .entry)) at [] w ⌝ }
-{
-    let c = w.counts;
-    let o = w.current;
-    let m = w.mark;
-    let v = capped_value(t);
-    Step {
-        walk: Walk {
-            phase: q,
-            counts: counts_each(c, true, none()),
-            current: Current {
-                key: o.key,
-                operand: o.operand,
-                modulus: o.modulus,
-                negated: o.negated,
-                low: v,
-                other: is_other(t),
-            },
-            mark: mark_after(m, at, value_row(v, c.values), at),
-        },
-        value: v,
-        closes: none(),
-        starts: true,
-        ends: false,
-    }
-}
-
-// What follows a relation or `other:`, and closes x.
-fn at_close(x: Closes, q: Phase, t: &[u8], at: usize, w: Walk) -> Step
-    ensures { λ r. ⌜ r ≡ stepBy Phase.DotsOrMore x q (now (t .entry)) at [] w ⌝ }
-{
-    let c = w.counts;
-    let o = w.current;
-    let m = w.mark;
-    Step {
-        walk: Walk {
-            phase: q,
-            counts: counts_each(c, false, x),
-            current: kept(o, t),
-            mark: mark_after(m, at, 0, at),
-        },
-        value: 0,
-        closes: x,
-        starts: false,
-        ends: false,
-    }
-}
-
-// The upper end of a range.
-fn at_upper(q: Phase, t: &[u8], at: usize, w: Walk) -> Step
-    ensures { λ r. ⌜ r ≡ stepBy Phase.Upper nothing q (now (t .entry)) at [] w ⌝ }
-{
-    let c = w.counts;
-    let o = w.current;
-    let m = w.mark;
-    let v = capped_value(t);
-    Step {
-        walk: Walk {
-            phase: q,
-            counts: c,
-            current: kept(o, t),
-            mark: mark_after(m, at, upper_row(v, o.low), at),
-        },
-        value: v,
-        closes: none(),
-        starts: false,
-        ends: true,
-    }
-}
-
-// Any token where nothing makes the pack well-formed.
-fn at_dead(t: &[u8], at: usize, w: Walk) -> Step
-    ensures { λ r. ⌜ r ≡ stepBy Phase.Dead nothing Phase.Dead (now (t .entry)) at [] w ⌝ }
-{
-    let c = w.counts;
-    let o = w.current;
-    let m = w.mark;
-    Step {
-        walk: Walk {
-            phase: Phase::Dead,
-            counts: c,
-            current: kept(o, t),
-            mark: mark_after(m, m.stop, 0, at),
-        },
-        value: 0,
-        closes: none(),
-        starts: false,
-        ends: false,
+    let d = current_after(o, p, t, v);
+    let row = row_at(p, d.key, keys, v, c, o.low);
+    Walk {
+        phase: next_phase(p, o.other, t),
+        counts: counts_after(c, same_phase(p, Phase::Value), x),
+        current: d,
+        mark: mark_after(p, m, row, at),
     }
 }
 
@@ -531,37 +403,13 @@ pub fn step_after(t: &[u8], at: usize, keys: &[u8], w: Walk) -> Step
     ensures { λ r. ⌜ r ≡ stepAfter (now (t .entry)) at (now (keys .entry)) w ⌝ }
 {
     let p = w.phase;
-    let o = w.current;
-    match p {
-        Phase::Name => at_name(next_phase(Phase::Name, o.other, t), t, at, keys, w),
-        Phase::Colon => at_colon(next_phase(Phase::Colon, o.other, t), t, at, w),
-        Phase::Nothing => at_close(
-            ends_bare(t),
-            next_phase(Phase::Nothing, o.other, t),
-            t,
-            at,
-            w,
-        ),
-        Phase::Operand => at_operand(next_phase(Phase::Operand, o.other, t), t, at, w),
-        Phase::ModulusOrSign => at_sign(next_phase(Phase::ModulusOrSign, o.other, t), t, at, w),
-        Phase::Modulus => at_modulus(next_phase(Phase::Modulus, o.other, t), t, at, w),
-        Phase::Sign => at_sign(next_phase(Phase::Sign, o.other, t), t, at, w),
-        Phase::Value => at_value(next_phase(Phase::Value, o.other, t), t, at, w),
-        Phase::DotsOrMore => at_close(
-            ends_relation(t),
-            next_phase(Phase::DotsOrMore, o.other, t),
-            t,
-            at,
-            w,
-        ),
-        Phase::Upper => at_upper(next_phase(Phase::Upper, o.other, t), t, at, w),
-        Phase::More => at_close(
-            ends_relation(t),
-            next_phase(Phase::More, o.other, t),
-            t,
-            at,
-            w,
-        ),
-        Phase::Dead => at_dead(t, at, w),
+    let v = value_at(p, t);
+    let x = closes_at(p, t);
+    Step {
+        walk: walk_after(v, x, t, at, keys, w),
+        value: v,
+        closes: x,
+        starts: same_phase(p, Phase::Value),
+        ends: same_phase(p, Phase::Upper),
     }
 }
