@@ -7,7 +7,7 @@ ghost use mathlib.Core.List.{[], _∷_};
 ghost use Rattle.decimal.specs.Choice.{if_then_else_};
 ghost use Rattle.token.specs.Spelling.{same};
 ghost use Rattle.grammar.specs.Grammar.{and, isWord, isNumber, isOperand};
-ghost use Rattle.phase.specs.Next.{afterSign, afterRelation, nextPhase, phaseNumber, samePhase};
+ghost use Rattle.phase.specs.Next.{afterSign, afterRelation, nextPhase, phaseNumber, samePhase, hasNumber, isSign, isClosing};
 use decimal::cut::after;
 use decimal::scan::is_digit;
 use token::first_byte;
@@ -177,7 +177,7 @@ pub fn next_phase(p: Phase, other: bool, t: &[u8]) -> Phase
 }
 
 // A number of its own for each phase.
-pub fn number(p: Phase) -> u8
+fn number(p: Phase) -> u8
     ensures { λ r. ⌜ r ≡ phaseNumber p ⌝ }
 {
     match p {
@@ -200,4 +200,37 @@ pub fn same_phase(p: Phase, q: Phase) -> bool
     ensures { λ r. ⌜ r ≡ samePhase p q ⌝ }
 {
     number(p) == number(q)
+}
+
+// Whether a number is next: a modulus, a value or the upper end of a range.
+pub fn has_number(p: Phase) -> bool
+    ensures { λ r. ⌜ r ≡ hasNumber p ⌝ }
+{
+    if same_phase(p, Phase::Modulus) {
+        return true;
+    }
+    if same_phase(p, Phase::Value) {
+        return true;
+    }
+    same_phase(p, Phase::Upper)
+}
+
+// Whether a sign may be next.
+pub fn is_sign(p: Phase) -> bool
+    ensures { λ r. ⌜ r ≡ isSign p ⌝ }
+{
+    if same_phase(p, Phase::ModulusOrSign) {
+        return true;
+    }
+    same_phase(p, Phase::Sign)
+}
+
+// Whether a relation may end: behind a value or a range.
+pub fn is_closing(p: Phase) -> bool
+    ensures { λ r. ⌜ r ≡ isClosing p ⌝ }
+{
+    if same_phase(p, Phase::DotsOrMore) {
+        return true;
+    }
+    same_phase(p, Phase::More)
 }

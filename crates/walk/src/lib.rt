@@ -12,11 +12,13 @@ ghost use Rattle.walk.specs.Steps.{capped, valueAt, keywordNumber, held,
 use decimal::cut::upto;
 use decimal::value::value_of;
 use phase::Phase;
+use phase::has_number;
 use phase::is_and;
 use phase::is_byte;
+use phase::is_closing;
 use phase::is_pair;
+use phase::is_sign;
 use phase::next_phase;
-use phase::number;
 use phase::same_phase;
 use token::first_byte;
 use token::same_text;
@@ -86,27 +88,6 @@ const MAX_RANGES: usize = 16;
 
 const MAX_VALUE: u32 = 999_999;
 
-// The numbers of phases.
-const NAME: u8 = 0;
-
-const NOTHING: u8 = 2;
-
-const OPERAND: u8 = 3;
-
-const MODULUS_OR_SIGN: u8 = 4;
-
-const MODULUS: u8 = 5;
-
-const SIGN: u8 = 6;
-
-const VALUE: u8 = 7;
-
-const DOTS_OR_MORE: u8 = 8;
-
-const UPPER: u8 = 9;
-
-const MORE: u8 = 10;
-
 fn or_either(a: bool, b: bool) -> bool
     ensures { λ r. ⌜ r ≡ either a b ⌝ }
 {
@@ -152,14 +133,7 @@ fn capped_value(t: &[u8]) -> u32
 fn value_at(p: Phase, t: &[u8]) -> u32
     ensures { λ r. ⌜ r ≡ valueAt p (now (t .entry)) ⌝ }
 {
-    let k = number(p);
-    if k == MODULUS {
-        return capped_value(t);
-    }
-    if k == VALUE {
-        return capped_value(t);
-    }
-    if k == UPPER {
+    if has_number(p) {
         return capped_value(t);
     }
     0
@@ -225,8 +199,7 @@ fn more_if(b: bool, n: usize) -> usize
 fn closes_at(p: Phase, t: &[u8]) -> Closes
     ensures { λ r. ⌜ r ≡ closesAt p (now (t .entry)) ⌝ }
 {
-    let k = number(p);
-    if or_either(k == DOTS_OR_MORE, k == MORE) {
+    if is_closing(p) {
         let c = is_byte(t, b';');
         let b = or_either(is_pair(t, b'o', b'r'), c);
         return Closes {
@@ -235,7 +208,7 @@ fn closes_at(p: Phase, t: &[u8]) -> Closes
             rule: c,
         };
     }
-    if k == NOTHING {
+    if same_phase(p, Phase::Nothing) {
         return Closes {
             relation: false,
             clause: false,
@@ -317,20 +290,19 @@ fn upper_row(v: u32, low: u32) -> u8
 fn row_at(p: Phase, key: u8, keys: &[u8], v: u32, c: Counts, low: u32) -> u8
     ensures { λ r. ⌜ r ≡ rowAt p key (held key (take (c .rules) (now (keys .entry)))) v c low ⌝ }
 {
-    let k = number(p);
-    if k == NAME {
+    if same_phase(p, Phase::Name) {
         return name_row(key, held_before(keys, c.rules, key));
     }
-    if k == OPERAND {
+    if same_phase(p, Phase::Operand) {
         return operand_row(c.parted, c.joined);
     }
-    if k == MODULUS {
+    if same_phase(p, Phase::Modulus) {
         return pick_byte(is_modulus(v), 0, 23);
     }
-    if k == VALUE {
+    if same_phase(p, Phase::Value) {
         return value_row(v, c.values);
     }
-    if k == UPPER {
+    if same_phase(p, Phase::Upper) {
         return upper_row(v, low);
     }
     0
@@ -365,17 +337,17 @@ fn is_other(t: &[u8]) -> bool
 fn current_after(o: Current, p: Phase, t: &[u8], v: u32) -> Current
     ensures { λ r. ⌜ r ≡ currentAfter o p (now (t .entry)) v (keyAfter p (now (t .entry)) (o .key)) ⌝ }
 {
-    let k = number(p);
+    let operand = same_phase(p, Phase::Operand);
     Current {
         key: key_after(p, t, o.key),
-        operand: pick_byte(k == OPERAND, first_byte(t), o.operand),
-        modulus: pick_number(k == OPERAND, 0, pick_number(k == MODULUS, v, o.modulus)),
-        negated: pick_test(
-            or_either(k == MODULUS_OR_SIGN, k == SIGN),
-            is_pair(t, b'!', b'='),
-            o.negated,
+        operand: pick_byte(operand, first_byte(t), o.operand),
+        modulus: pick_number(
+            operand,
+            0,
+            pick_number(same_phase(p, Phase::Modulus), v, o.modulus),
         ),
-        low: pick_number(k == VALUE, v, o.low),
+        negated: pick_test(is_sign(p), is_pair(t, b'!', b'='), o.negated),
+        low: pick_number(same_phase(p, Phase::Value), v, o.low),
         other: is_other(t),
     }
 }
