@@ -9,13 +9,19 @@ ghost use Rattle.check_laws.specs.Bounded.{fromTo};
 ghost use Rattle.check_laws.specs.Fast.{test};
 ghost use Rattle.check_laws.specs.Profile.{valuesOf};
 use check_laws::Bounds;
+use check_laws::limits;
 use check_relation::relation::holds_of;
 use decimal::Places;
 use rules::Single;
 
-const EXPONENTS: u64 = 15;
+const EXPONENTS: u64 = limits::MAX_EXPONENT + 1;
 
-const PLACES: u64 = 10;
+const PLACES: u64 = limits::MAX_PLACES + 1;
+
+// The largest v, and how many there are.
+const LAST_V: u8 = limits::MAX_PLACES as u8;
+
+const EVERY_V: u8 = LAST_V + 1;
 
 // One bit more, of the value `place`, where it is on.
 pub fn with_bit(mask: u64, place: u64, on: bool) -> u64
@@ -86,7 +92,7 @@ pub fn is_free(b: Bounds) -> bool
         return false;
     }
     let most = b.most;
-    9 <= most.0
+    LAST_V <= most.0
 }
 
 // Those that are.
@@ -96,7 +102,7 @@ pub fn between(b: Bounds) -> u64
     let mut mask: u64 = 0;
     let mut place: u64 = 1;
     let mut v: u8 = 0;
-    while v < 10 {
+    while v < EVERY_V {
         let on = is_between(b, Places(v));
         mask = with_bit(mask, place, on);
         place *= 2;

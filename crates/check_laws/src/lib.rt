@@ -1,10 +1,12 @@
-// What the pack check answers, and the laws of its search. There are types here and no function.
+// What the pack check answers, and the laws of its search. There are types and limits here and no function.
 //
 // specs/Check.antt is the definition, a search over all admitted numbers in document 01's order;
 // specs/Fast.antt is the search that is run, part by part, and proofs/FastIs.antt shows that they agree;
 // specs/Levels.antt sorts the relations by the power of ten that they ask.
 // specs/Seek.antt says what the least number of a test is, specs/Segments.antt how the next number of a
 // level is found from its segments. specs/Read.antt says what stretches of a pack's arrays hold.
+pub mod limits;
+
 use answer::Pair;
 use answer::Witness;
 use decimal::Places;

@@ -9,14 +9,11 @@ ghost use Rattle.rules.specs.Stretch.{table};
 ghost use Rattle.check_laws.specs.Ready.{ready, leastIn};
 use check_laws::Query;
 use check_laws::Span;
-
-const RELATION_ROOM: usize = 320;
+use check_laws::limits::FRACTION_LIMIT;
+use check_laws::limits::RELATION_ROOM;
 
 // 10^18: no value that is compared is above it
 const CAP: u64 = 1_000_000_000_000_000_000;
-
-// 10^9
-const FRACTION_CAP: u64 = 1_000_000_000;
 
 // Whether a search has room: its operands stay within CAP, and its relations within the arrays.
 fn is_ready(s: Span, q: Query, lo: u64, hi: u64) -> bool
@@ -43,10 +40,10 @@ fn is_ready(s: Span, q: Query, lo: u64, hi: u64) -> bool
     if q.f == 0 {
         return hi <= CAP;
     }
-    if FRACTION_CAP < q.f {
+    if FRACTION_LIMIT < q.f {
         return false;
     }
-    hi <= FRACTION_CAP
+    hi <= FRACTION_LIMIT
 }
 
 // The least number from lo on and below hi that passes what the clause asks, or hi; hi too where the

@@ -9,10 +9,14 @@ ghost use Rattle.check_laws.specs.Fast.{ends, passesAll};
 ghost use Rattle.check_laws.specs.Levels.{own, below, levelled, levels, window};
 ghost use Rattle.check_laws.specs.Read.{cap, joinedIn};
 ghost use Rattle.check_laws.specs.Ready.{Fit, Room};
-ghost use Rattle.check_runs.specs.Kept.{sizeOf, Told};
+ghost use Rattle.check_runs.specs.Kept.{keptRoom, sizeOf, Told};
 ghost use Rattle.check_next.specs.Table.{Laid, Tabled};
 use check_laws::Query;
 use check_laws::Span;
+use check_next::LevelPlaces;
+use check_next::ROOM;
+use check_next::Segments;
+use check_runs::KEPT;
 use check_runs::clause::clause_run;
 use check_runs::clause::ends_of;
 use check_runs::clause::passes_at;
@@ -22,11 +26,7 @@ use check_runs::marks::mark_levels;
 use check_table::Built;
 use check_table::find;
 use check_table::level;
-
-// How many relations of a clause have room for what is kept of each.
-const RELATIONS: usize = 16;
-
-const LEVELS: usize = 7;
+use check_table::level::LEVELS;
 
 // The level of what is asked of the number itself, and that of moduli that fit no level.
 const WINDOW: usize = 7;
@@ -65,17 +65,17 @@ fn in_window<'a>(
     high: &'a [u32; 2048],
     s: Span,
     q: Query,
-    tiers: &[usize; 16],
+    tiers: &[usize; KEPT],
     lo: u64,
     hi: u64,
 ) -> u64
-    requires { ⌜ Fit q × Room q hi × (lo ≤ hi) × (s .to ≤ 320) × (s .stop ≤ 320) × (sizeOf s ≤ 16) × Told (table (now columns) (now low) (now high)) s q (now tiers) ⌝ }
+    requires { ⌜ Fit q × Room q hi × (lo ≤ hi) × (s .to ≤ 320) × (s .stop ≤ 320) × (sizeOf s ≤ keptRoom) × Told (table (now columns) (now low) (now high)) s q (now tiers) ⌝ }
     ensures { λ r. ⌜ Least (own q (joinedIn (table (now (columns .entry)) (now (low .entry)) (now (high .entry))) s) window) lo hi r ⌝ }
 {
-    let mut list: [usize; 16] = [0; 16];
+    let mut list: [usize; KEPT] = [0; KEPT];
     let count = list_level(tiers, size_of(s), WINDOW, &mut list);
-    let mut says = [false; 16];
-    let mut stop: [u64; 16] = [0; 16];
+    let mut says = [false; KEPT];
+    let mut stop: [u64; KEPT] = [0; KEPT];
     let mut p = lo;
     while p < hi {
         let run = clause_run(
@@ -106,23 +106,23 @@ fn by_table<'a>(
     high: &'a [u32; 2048],
     s: Span,
     q: Query,
-    tiers: &[usize; 16],
-    starts: &[u32; 288],
-    ends: &[u32; 288],
-    at: &[usize; 8],
+    tiers: &[usize; KEPT],
+    starts: &Segments,
+    ends: &Segments,
+    at: &LevelPlaces,
     lo: u64,
     hi: u64,
 ) -> u64
-    requires { ⌜ Fit q × Room q hi × (lo ≤ hi) × (s .to ≤ 320) × (s .stop ≤ 320) × (sizeOf s ≤ 16) × Told (table (now columns) (now low) (now high)) s q (now tiers) ⌝ }
+    requires { ⌜ Fit q × Room q hi × (lo ≤ hi) × (s .to ≤ 320) × (s .stop ≤ 320) × (sizeOf s ≤ keptRoom) × Told (table (now columns) (now low) (now high)) s q (now tiers) ⌝ }
     requires { ⌜ levelled q (joinedIn (table (now columns) (now low) (now high)) s) ≡ true ⌝ }
     requires { ⌜ Laid (now starts) (now ends) (now at) levels ⌝ }
     requires { ⌜ Tabled (below q (joinedIn (table (now columns) (now low) (now high)) s)) (now starts) (now ends) (now at) levels ⌝ }
     ensures { λ r. ⌜ Least (passesAll q (joinedIn (table (now (columns .entry)) (now (low .entry)) (now (high .entry))) s)) lo hi r ⌝ }
 {
-    let mut list: [usize; 16] = [0; 16];
+    let mut list: [usize; KEPT] = [0; KEPT];
     let count = list_level(tiers, size_of(s), WINDOW, &mut list);
-    let mut says = [false; 16];
-    let mut stop: [u64; 16] = [0; 16];
+    let mut says = [false; KEPT];
+    let mut stop: [u64; KEPT] = [0; KEPT];
     let f = find::find(
         columns,
         low,
@@ -151,19 +151,19 @@ fn in_table<'a>(
     high: &'a [u32; 2048],
     s: Span,
     q: Query,
-    tiers: &[usize; 16],
+    tiers: &[usize; KEPT],
     asked: &[bool; 9],
     lo: u64,
     hi: u64,
 ) -> u64
-    requires { ⌜ Fit q × Room q hi × (lo ≤ hi) × (s .to ≤ 320) × (s .stop ≤ 320) × (sizeOf s ≤ 16) × Told (table (now columns) (now low) (now high)) s q (now tiers) ⌝ }
+    requires { ⌜ Fit q × Room q hi × (lo ≤ hi) × (s .to ≤ 320) × (s .stop ≤ 320) × (sizeOf s ≤ keptRoom) × Told (table (now columns) (now low) (now high)) s q (now tiers) ⌝ }
     requires { ⌜ levelled q (joinedIn (table (now columns) (now low) (now high)) s) ≡ true ⌝ }
     requires { ⌜ ((j : ℕ) → j < 9 → getD (now asked) j false ≡ false → (x : ℕ) → own q (joinedIn (table (now columns) (now low) (now high)) s) j x ≡ true) ⌝ }
     ensures { λ r. ⌜ Least (passesAll q (joinedIn (table (now (columns .entry)) (now (low .entry)) (now (high .entry))) s)) lo hi r ⌝ }
 {
-    let mut starts: [u32; 288] = [0; 288];
-    let mut ends: [u32; 288] = [0; 288];
-    let mut at: [usize; 8] = [0; 8];
+    let mut starts: Segments = [0; ROOM];
+    let mut ends: Segments = [0; ROOM];
+    let mut at: LevelPlaces = [0; 8];
     let b = level::build(
         columns,
         low,
@@ -205,12 +205,12 @@ fn by_window<'a>(
     high: &'a [u32; 2048],
     s: Span,
     q: Query,
-    tiers: &[usize; 16],
+    tiers: &[usize; KEPT],
     asked: &[bool; 9],
     lo: u64,
     hi: u64,
 ) -> u64
-    requires { ⌜ Fit q × Room q hi × (lo ≤ hi) × (s .to ≤ 320) × (s .stop ≤ 320) × (sizeOf s ≤ 16) × Told (table (now columns) (now low) (now high)) s q (now tiers) ⌝ }
+    requires { ⌜ Fit q × Room q hi × (lo ≤ hi) × (s .to ≤ 320) × (s .stop ≤ 320) × (sizeOf s ≤ keptRoom) × Told (table (now columns) (now low) (now high)) s q (now tiers) ⌝ }
     requires { ⌜ levelled q (joinedIn (table (now columns) (now low) (now high)) s) ≡ true ⌝ }
     requires { ⌜ ((j : ℕ) → j < 9 → getD (now asked) j false ≡ false → (x : ℕ) → own q (joinedIn (table (now columns) (now low) (now high)) s) j x ≡ true) ⌝ }
     ensures { λ r. ⌜ Least (passesAll q (joinedIn (table (now (columns .entry)) (now (low .entry)) (now (high .entry))) s)) lo hi r ⌝ }
@@ -243,11 +243,11 @@ fn by_levels<'a>(
     requires { ⌜ Fit q × Room q hi × (lo ≤ hi) × (s .to ≤ 320) × (s .stop ≤ 320) ⌝ }
     ensures { λ r. ⌜ Least (passesAll q (joinedIn (table (now (columns .entry)) (now (low .entry)) (now (high .entry))) s)) lo hi r ⌝ }
 {
-    if RELATIONS < size_of(s) {
+    if KEPT < size_of(s) {
         return try_each(columns, low, high, s, q, lo, hi);
     }
     let mut asked = [false; 9];
-    let mut tiers: [usize; 16] = [0; 16];
+    let mut tiers: [usize; KEPT] = [0; KEPT];
     mark_levels(columns, low, high, s, q, &mut asked, &mut tiers);
     if asked[STRAY] {
         return try_each(columns, low, high, s, q, lo, hi);

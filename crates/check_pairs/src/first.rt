@@ -16,7 +16,7 @@ use crate::joined;
 use answer::Pair;
 use answer::Witness;
 use check_laws::Checked;
-use check_places::limits;
+use check_laws::limits;
 use check_places::order;
 
 // The first of the rules behind the rule p, below n, that clashes with it; n where none does.

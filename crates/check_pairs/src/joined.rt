@@ -7,77 +7,20 @@ ghost use lib.ListN.{getD};
 ghost use Rattle.check_laws.specs.Floors.{Floored};
 ghost use Rattle.check_laws.specs.Fast.{clauseRank, fastRank, withEach, bothOf};
 ghost use Rattle.check_laws.specs.Profile.{profileOf, Profiled};
-ghost use Rattle.rules.specs.Stretch.{startAt, table, clauseAt, clausesIn};
+ghost use Rattle.rules.specs.Stretch.{table, clauseAt, clausesIn};
 ghost use Rattle.check_laws.specs.Read.{ruleClauses};
 ghost use Rattle.check_laws.specs.Spots.{spotRank, Proper};
-use crate::floors;
 use answer::Witness;
+use check_clauses::ends::clauses_start;
+use check_clauses::ends::clauses_stop;
+use check_clauses::ends::relations_start;
+use check_clauses::ends::relations_stop;
+use check_clauses::floors;
 use check_laws::Bounds;
 use check_laws::Span;
-use check_places::limits;
+use check_laws::limits;
 use check_places::order;
 use decimal::Places;
-use decimal::num::further;
-
-const RELATION_ROOM: usize = 320;
-
-const CLAUSE_ROOM: usize = 40;
-
-// Where the relations of the clause k begin, and where they end.
-pub fn relations_start(ends: &[usize; 40], k: usize) -> usize
-    requires { ⌜ k < 40 ⌝ }
-    ensures { λ r. ⌜ r ≡ startAt (now (ends .entry)) k ⌝ }
-{
-    if k == 0 {
-        return 0;
-    }
-    ends[k - 1]
-}
-
-pub fn relations_stop(ends: &[usize; 40], k: usize) -> usize
-    requires { ⌜ k < 40 ⌝ }
-    ensures { λ r. ⌜ r ≡ min (getD (now (ends .entry)) k 0) 320 ⌝ }
-{
-    let end = ends[k];
-    if end < RELATION_ROOM {
-        end
-    } else {
-        RELATION_ROOM
-    }
-}
-
-// Where the clauses of the rule p begin, and where they end.
-fn clauses_start(ends: &[usize; 6], p: usize) -> usize
-    requires { ⌜ p < 6 ⌝ }
-    ensures { λ r. ⌜ r ≡ startAt (now (ends .entry)) p ⌝ }
-{
-    if p == 0 {
-        return 0;
-    }
-    ends[p - 1]
-}
-
-fn clauses_stop(ends: &[usize; 6], p: usize) -> usize
-    requires { ⌜ p < 6 ⌝ }
-    ensures { λ r. ⌜ r ≡ min (getD (now (ends .entry)) p 0) 40 ⌝ }
-{
-    let end = ends[p];
-    if end < CLAUSE_ROOM { end } else { CLAUSE_ROOM }
-}
-
-// Past the clauses that the first n rules have.
-pub fn clauses_end(ends: &[usize; 6], n: usize) -> usize
-    requires { ⌜ n ≤ 6 ⌝ }
-    ensures { λ r. ⌜ (r ≤ 40) × ((p : ℕ) → p < n → min (getD (now (ends .entry)) p 0) 40 ≤ r) ⌝ }
-{
-    let mut end: usize = 0;
-    let mut p: usize = 0;
-    while p < n {
-        end = further(end, clauses_stop(ends, p));
-        p += 1;
-    }
-    end
-}
 
 // The least number of the clauses k and l joined, with any v.
 fn joined_spot<'a>(

@@ -1,19 +1,21 @@
 // The pack check: the first two rules that one admitted number meets, with the least such number.
 //
-// Crate check_laws has the definition and its laws; crate check_search finds the least number of two
-// clauses joined. Below the entry the pack's arrays are lent one by one, with its clauses' profiles and
-// the floors of its long ones. The entry is check.
+// Crate check_laws has the definition and its laws; crate check_clauses looks at each clause once, crate
+// check_search finds the least number of two clauses joined. Below the entry the pack's arrays are lent
+// one by one, with its clauses' profiles and the floors of its long ones. The entry is check.
 mod first;
-mod floors;
 mod joined;
-mod profiled;
 
 ghost use mathlib.Core.Path.{_≡_};
 ghost use Prim.Native.Nat.{min};
 ghost use Rattle.rules.specs.Held.{heldRules, lent};
 ghost use Rattle.check_laws.specs.Check.{checkOf};
 use answer::Witness;
+use check_clauses::ends::clauses_end;
+use check_clauses::floors;
+use check_clauses::profiled;
 use check_laws::Checked;
+use check_laws::limits::RULE_ROOM;
 
 // The first rule behind a rule that clashes with it, and the number; `at` is past the rules where none
 // does.
@@ -22,11 +24,11 @@ pub struct Clash {
     pub spot: Witness,
 }
 
-// There is room for six rules.
+// There is room for so many rules.
 fn rule_count(count: usize) -> usize
     ensures { λ r. ⌜ r ≡ min count 6 ⌝ }
 {
-    if count < 6 { count } else { 6 }
+    if count < RULE_ROOM { count } else { RULE_ROOM }
 }
 
 // Lent as slices the arrays have the lengths that they are declared with; there is nothing else to do.
@@ -53,7 +55,7 @@ pub fn check<'a>(
 {
     sized(columns, low, high, relations, keyword, clauses);
     let n = rule_count(count);
-    let end = joined::clauses_end(clauses, n);
+    let end = clauses_end(clauses, n);
     let mut whole: [u64; 40] = [0; 40];
     let mut part: [u64; 40] = [0; 40];
     let mut tail: [u64; 40] = [0; 40];

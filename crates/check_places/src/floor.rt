@@ -8,10 +8,10 @@ ghost use Rattle.number.specs.Limits.{maxDigits};
 ghost use Rattle.check_laws.specs.Floors.{NoneBelow, raised};
 ghost use Rattle.check_laws.specs.Read.{joinedIn};
 ghost use Rattle.check_laws.specs.Ready.{leastIn};
-use crate::limits;
 use check_laws::Floors;
 use check_laws::Query;
 use check_laws::Span;
+use check_laws::limits;
 use decimal::num::greater;
 
 // The least number from lo on and below hi that passes, or hi. Where the floor is not below hi there is

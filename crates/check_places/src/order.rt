@@ -5,8 +5,8 @@ ghost use Prim.Native.Nat.{min, max};
 ghost use lib.Dec.{ltb};
 ghost use Rattle.check_laws.specs.Check.{ranks};
 ghost use Rattle.check_laws.specs.Spots.{spotRank, Proper};
-use crate::limits;
 use answer::Witness;
+use check_laws::limits;
 use decimal::DigitValue;
 use decimal::Places;
 

@@ -11,7 +11,7 @@ ghost use Rattle.rules.specs.Syntax.{Relation};
 ghost use Rattle.check_laws.specs.Seek.{seek};
 ghost use Rattle.check_laws.specs.Fast.{settledF, wholeCode, partCode, tailPlaces, fractions};
 ghost use Rattle.check_laws.specs.Profile.{profileOf, marked, Settled, leastRoom};
-use crate::limits;
+use check_laws::limits;
 use decimal::num::power;
 
 // Whether the bit k is set.

@@ -8,11 +8,11 @@ ghost use Rattle.check_laws.specs.Check.{clashOf, against, firstPair};
 ghost use Rattle.rules.specs.Stretch.{stretch, table};
 ghost use Rattle.check_laws.specs.Read.{bareRule};
 ghost use Rattle.check_laws.specs.Spots.{Proper, answered};
-use crate::limits;
 use crate::search;
 use answer::Pair;
 use answer::Witness;
 use check_laws::Checked;
+use check_laws::limits::NO_EXPONENT;
 
 // The first rule behind a rule that clashes with it, and the number; `at` is past the rules where none
 // does.
@@ -37,7 +37,7 @@ fn later_clash<'a>(
     let mut q = p + 1;
     while q < n {
         let spot = search::try_all(columns, low, high, relations, clauses, p, q);
-        if spot.e < limits::NO_EXPONENT {
+        if spot.e < NO_EXPONENT {
             return Clash { at: q, spot: spot };
         }
         q += 1;

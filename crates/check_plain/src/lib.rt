@@ -12,12 +12,13 @@ ghost use Prim.Native.Nat.{min};
 ghost use Rattle.rules.specs.Held.{heldRules, lent};
 ghost use Rattle.check_laws.specs.Check.{checkOf};
 use check_laws::Checked;
+use check_laws::limits::RULE_ROOM;
 
-// There is room for six rules.
+// There is room for so many rules.
 fn rule_count(count: usize) -> usize
     ensures { λ r. ⌜ r ≡ min count 6 ⌝ }
 {
-    if count < 6 { count } else { 6 }
+    if count < RULE_ROOM { count } else { RULE_ROOM }
 }
 
 // Lent as slices the arrays have the lengths that they are declared with; there is nothing else to do.

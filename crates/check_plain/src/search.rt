@@ -10,6 +10,8 @@ ghost use Rattle.check_plain.specs.Search.{meetsBoth, rankAt, Tried};
 use crate::limits;
 use crate::operands;
 use answer::Witness;
+use check_laws::limits::INTEGER_LIMIT;
+use check_laws::limits::NO_EXPONENT;
 use decimal::DigitValue;
 use decimal::Places;
 use number::Number;
@@ -19,7 +21,7 @@ pub fn nowhere() -> Witness
     ensures { λ r. ⌜ (maxExponent < r .e) × Proper r ⌝ }
 {
     Witness {
-        e: limits::NO_EXPONENT,
+        e: NO_EXPONENT,
         v: Places(0),
         i: 0,
         f: DigitValue(0),
@@ -94,9 +96,9 @@ fn try_integers<'a>(
     ensures { λ r. ⌜ Tried (meetsBoth (table (now (columns .entry)) (now (low .entry)) (now (high .entry))) (now (relations .entry)) (now (clauses .entry)) p q) (rankAt e v 0 0) (rankAt e (v + 1) 0 0) r ⌝ }
 {
     let mut i = operands::lowest_of(e);
-    while i < limits::INTEGER_LIMIT {
+    while i < INTEGER_LIMIT {
         let s = try_fractions(columns, low, high, relations, clauses, p, q, e, v, i);
-        if s.e < limits::NO_EXPONENT {
+        if s.e < NO_EXPONENT {
             return s;
         }
         i += 1;
@@ -121,7 +123,7 @@ fn try_places<'a>(
     let mut v: u8 = 0;
     while v <= limits::MAX_PLACES {
         let s = try_integers(columns, low, high, relations, clauses, p, q, e, v);
-        if s.e < limits::NO_EXPONENT {
+        if s.e < NO_EXPONENT {
             return s;
         }
         v += 1;
@@ -144,7 +146,7 @@ pub fn try_all<'a>(
     let mut e: u8 = 0;
     while e <= limits::MAX_EXPONENT {
         let s = try_places(columns, low, high, relations, clauses, p, q, e);
-        if s.e < limits::NO_EXPONENT {
+        if s.e < NO_EXPONENT {
             return s;
         }
         e += 1;

@@ -19,6 +19,7 @@ ghost use Rattle.check_laws.specs.Profile.{packed, profileOf, wholeDigits, part
 use check_digits::digits;
 use check_digits::values;
 use check_laws::Bounds;
+use check_laws::limits;
 use rules::Single;
 use rules::single_at;
 
@@ -54,6 +55,9 @@ const PART_PLACE: u64 = 9_007_199_254_740_992;
 const PLACES: u64 = 1_024;
 
 const FLAGS: u64 = 8;
+
+// Past the largest e.
+const NO_EXPONENT: u64 = limits::NO_EXPONENT as u64;
 
 // Every last digit.
 const EACH_DIGIT: u64 = 1_023;
@@ -148,7 +152,7 @@ pub fn exponent_of(p: u64) -> u64
 {
     let e = p % V_PLACE;
     if e == 0 {
-        return 15;
+        return NO_EXPONENT;
     }
     u64::trailing_zeros(e) as u64
 }

@@ -14,6 +14,10 @@ use Rattle.check_laws.specs.declared.Query.{Query}
 use Rattle.check_laws.specs.declared.Span.{Span}
 use Rattle.check_relation.specs.Runs.{tier}
 
+-- how many relations of a clause have room for what is kept of each
+abbrev pub keptRoom : ℕ
+keptRoom = 16
+
 -- how many relations the clause has, and where the one of index k stands
 abbrev pub sizeOf : Span → ℕ
 sizeOf s = (s .to - s .from) + (s .stop - s .start)
@@ -46,6 +50,6 @@ pub record Gathered (tiers : List ℕ) (level : ℕ) (list : List ℕ) (n k : �
 -- those of `list` are relations of level j, and one of another place asks nothing there that they do not
 pub record Listed (T : Table) (s : Span) (q : Query) (j : ℕ) (list : List ℕ) (count : ℕ) : Type 0 where
   pub level : j < 9
-  pub few : count ≤ 16
+  pub few : count ≤ keptRoom
   pub each : (i : ℕ) → i < count → (getD list i 0 < sizeOf s) × (j ≡ tier q (relationAt T (placeOf s (getD list i 0))))
   pub covers : (x : ℕ) → ((i : ℕ) → i < count → ownOne q j (relationAt T (placeOf s (getD list i 0))) x ≡ true) → (k : ℕ) → k < sizeOf s → ownOne q j (relationAt T (placeOf s k)) x ≡ true

@@ -11,8 +11,9 @@ ghost use Rattle.check_laws.specs.Fast.{ends, passesAll};
 ghost use Rattle.check_laws.specs.Levels.{ownOne, lastDigit, own};
 ghost use Rattle.check_laws.specs.Read.{joinedIn};
 ghost use Rattle.check_laws.specs.Ready.{Fit, Room};
-ghost use Rattle.check_runs.specs.Kept.{sizeOf, placeOf, Kept, Listed};
+ghost use Rattle.check_runs.specs.Kept.{keptRoom, sizeOf, placeOf, Kept, Listed};
 ghost use Rattle.check_relation.specs.Runs.{tier, far};
+use crate::KEPT;
 use check_laws::Query;
 use check_laws::Span;
 use check_relation::FAR;
@@ -84,12 +85,12 @@ fn run_at<'a>(
     level: usize,
     p: u64,
     k: usize,
-    says: &mut [bool; 16],
-    stop: &mut [u64; 16],
+    says: &mut [bool; KEPT],
+    stop: &mut [u64; KEPT],
 ) -> Run
     requires { ⌜ Fit q ⌝ }
     requires { ⌜ Room q p ⌝ }
-    requires { ⌜ (s .to ≤ 320) × (s .stop ≤ 320) × (k < sizeOf s) × (k < 16) × (level < 9) × (level ≡ tier q (relationAt (table (now columns) (now low) (now high)) (placeOf s k))) ⌝ }
+    requires { ⌜ (s .to ≤ 320) × (s .stop ≤ 320) × (k < sizeOf s) × (k < keptRoom) × (level < 9) × (level ≡ tier q (relationAt (table (now columns) (now low) (now high)) (placeOf s k))) ⌝ }
     requires { ⌜ Kept (table (now columns) (now low) (now high)) s q level p (now says) (now stop) ⌝ }
     ensures { λ r. ⌜ Alike (ownOne q level (relationAt (table (now (columns .entry)) (now (low .entry)) (now (high .entry))) (placeOf s k))) p (r .says) (r .stop) ⌝ }
     ensures { λ _. ⌜ Kept (table (now (columns .entry)) (now (low .entry)) (now (high .entry))) s q level p (now (says .exit)) (now (stop .exit)) ⌝ }
@@ -116,16 +117,16 @@ pub fn clause_run<'a>(
     high: &'a [u32; 2048],
     s: Span,
     q: Query,
-    list: &[usize; 16],
+    list: &[usize; KEPT],
     count: usize,
     level: usize,
     p: u64,
-    says: &mut [bool; 16],
-    stop: &mut [u64; 16],
+    says: &mut [bool; KEPT],
+    stop: &mut [u64; KEPT],
 ) -> Run
     requires { ⌜ Fit q ⌝ }
     requires { ⌜ Room q p ⌝ }
-    requires { ⌜ (s .to ≤ 320) × (s .stop ≤ 320) × (sizeOf s ≤ 16) × Listed (table (now columns) (now low) (now high)) s q level (now list) count ⌝ }
+    requires { ⌜ (s .to ≤ 320) × (s .stop ≤ 320) × (sizeOf s ≤ keptRoom) × Listed (table (now columns) (now low) (now high)) s q level (now list) count ⌝ }
     requires { ⌜ Kept (table (now columns) (now low) (now high)) s q level p (now says) (now stop) ⌝ }
     ensures { λ r. ⌜ Alike (own q (joinedIn (table (now (columns .entry)) (now (low .entry)) (now (high .entry))) s) level) p (r .says) (r .stop) ⌝ }
     ensures { λ r. ⌜ r .stop ≤ far ⌝ }

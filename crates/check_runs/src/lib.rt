@@ -5,3 +5,6 @@
 // clause, and mark_levels and list_level of module marks.
 pub mod clause;
 pub mod marks;
+
+// How many relations of a clause have room for what is kept of each.
+pub const KEPT: usize = 16;

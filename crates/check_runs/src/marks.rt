@@ -9,8 +9,9 @@ ghost use Rattle.rules.specs.Stretch.{relationBy, table};
 ghost use Rattle.check_laws.specs.Levels.{own, levelled};
 ghost use Rattle.check_laws.specs.Read.{joinedIn};
 ghost use Rattle.check_laws.specs.Ready.{Fit};
-ghost use Rattle.check_runs.specs.Kept.{sizeOf, Told, Gathered, Noted, Grown};
+ghost use Rattle.check_runs.specs.Kept.{keptRoom, sizeOf, Told, Gathered, Noted, Grown};
 ghost use Rattle.check_relation.specs.Runs.{tier};
+use crate::KEPT;
 use crate::clause;
 use check_laws::Query;
 use check_laws::Span;
@@ -68,10 +69,10 @@ pub fn mark_levels<'a>(
     s: Span,
     q: Query,
     asked: &mut [bool; 9],
-    tiers: &mut [usize; 16],
+    tiers: &mut [usize; KEPT],
 )
     requires { ⌜ Fit q ⌝ }
-    requires { ⌜ (s .to ≤ 320) × (s .stop ≤ 320) × (sizeOf s ≤ 16) × (length (now tiers) ≡ 16) ⌝ }
+    requires { ⌜ (s .to ≤ 320) × (s .stop ≤ 320) × (sizeOf s ≤ keptRoom) × (length (now tiers) ≡ keptRoom) ⌝ }
     ensures { λ _. ⌜ Told (table (now (columns .entry)) (now (low .entry)) (now (high .entry))) s q (now (tiers .exit)) ⌝ }
     ensures { λ _. ⌜ ((j : ℕ) → j < 9 → getD (now (asked .exit)) j false ≡ false → (x : ℕ) → own q (joinedIn (table (now (columns .entry)) (now (low .entry)) (now (high .entry))) s) j x ≡ true) ⌝ }
     ensures { λ _. ⌜ (getD (now (asked .exit)) 8 false ≡ false → levelled q (joinedIn (table (now (columns .entry)) (now (low .entry)) (now (high .entry))) s) ≡ true) ⌝ }
@@ -93,8 +94,13 @@ fn one_if(b: bool) -> usize
 }
 
 // Stores the indices below `size` whose level it is at the front of `list`, and tells how many there are.
-pub fn list_level(tiers: &[usize; 16], size: usize, level: usize, list: &mut [usize; 16]) -> usize
-    requires { ⌜ (size ≤ 16) × (length (now list) ≡ 16) ⌝ }
+pub fn list_level(
+    tiers: &[usize; KEPT],
+    size: usize,
+    level: usize,
+    list: &mut [usize; KEPT],
+) -> usize
+    requires { ⌜ (size ≤ keptRoom) × (length (now list) ≡ keptRoom) ⌝ }
     ensures { λ r. ⌜ Gathered (now (tiers .entry)) level (now (list .exit)) r size ⌝ }
 {
     let mut n = 0;

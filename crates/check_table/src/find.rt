@@ -5,13 +5,16 @@ ghost use Rattle.rules.specs.Stretch.{table};
 ghost use Rattle.check_laws.specs.Levels.{own, below};
 ghost use Rattle.check_laws.specs.Read.{joinedIn};
 ghost use Rattle.check_laws.specs.Ready.{Fit, Room};
-ghost use Rattle.check_runs.specs.Kept.{sizeOf, Kept, Listed};
+ghost use Rattle.check_runs.specs.Kept.{keptRoom, sizeOf, Kept, Listed};
 ghost use Rattle.check_next.specs.Table.{Laid, Tabled};
 ghost use Rattle.check_table.specs.Building.{Looked, Opens};
 use crate::Found;
 use check_laws::Query;
 use check_laws::Span;
+use check_next::LevelPlaces;
+use check_next::Segments;
 use check_next::next;
+use check_runs::KEPT;
 use check_runs::clause::clause_run;
 use decimal::num::lesser;
 
@@ -23,19 +26,19 @@ fn look<'a>(
     high: &'a [u32; 2048],
     s: Span,
     q: Query,
-    list: &[usize; 16],
+    list: &[usize; KEPT],
     count: usize,
     level: usize,
-    starts: &[u32; 288],
-    ends: &[u32; 288],
-    at: &[usize; 8],
+    starts: &Segments,
+    ends: &Segments,
+    at: &LevelPlaces,
     j: usize,
     p: u64,
     end: u64,
-    says: &mut [bool; 16],
-    stop: &mut [u64; 16],
+    says: &mut [bool; KEPT],
+    stop: &mut [u64; KEPT],
 ) -> Found
-    requires { ⌜ Fit q × Room q end × (p < end) × (s .to ≤ 320) × (s .stop ≤ 320) × (sizeOf s ≤ 16) × Listed (table (now columns) (now low) (now high)) s q level (now list) count ⌝ }
+    requires { ⌜ Fit q × Room q end × (p < end) × (s .to ≤ 320) × (s .stop ≤ 320) × (sizeOf s ≤ keptRoom) × Listed (table (now columns) (now low) (now high)) s q level (now list) count ⌝ }
     requires { ⌜ Laid (now starts) (now ends) (now at) j ⌝ }
     requires { ⌜ Tabled (below q (joinedIn (table (now columns) (now low) (now high)) s)) (now starts) (now ends) (now at) j ⌝ }
     requires { ⌜ Kept (table (now columns) (now low) (now high)) s q level p (now says) (now stop) ⌝ }
@@ -64,19 +67,19 @@ pub fn find<'a>(
     high: &'a [u32; 2048],
     s: Span,
     q: Query,
-    list: &[usize; 16],
+    list: &[usize; KEPT],
     count: usize,
     level: usize,
-    starts: &[u32; 288],
-    ends: &[u32; 288],
-    at: &[usize; 8],
+    starts: &Segments,
+    ends: &Segments,
+    at: &LevelPlaces,
     j: usize,
     from: u64,
     end: u64,
-    says: &mut [bool; 16],
-    stop: &mut [u64; 16],
+    says: &mut [bool; KEPT],
+    stop: &mut [u64; KEPT],
 ) -> Found
-    requires { ⌜ Fit q × Room q end × (from ≤ end) × (s .to ≤ 320) × (s .stop ≤ 320) × (sizeOf s ≤ 16) × Listed (table (now columns) (now low) (now high)) s q level (now list) count ⌝ }
+    requires { ⌜ Fit q × Room q end × (from ≤ end) × (s .to ≤ 320) × (s .stop ≤ 320) × (sizeOf s ≤ keptRoom) × Listed (table (now columns) (now low) (now high)) s q level (now list) count ⌝ }
     requires { ⌜ Laid (now starts) (now ends) (now at) j ⌝ }
     requires { ⌜ Tabled (below q (joinedIn (table (now columns) (now low) (now high)) s)) (now starts) (now ends) (now at) j ⌝ }
     requires { ⌜ Kept (table (now columns) (now low) (now high)) s q level from (now says) (now stop) ⌝ }

@@ -7,20 +7,21 @@ ghost use Rattle.rules.specs.Stretch.{table};
 ghost use Rattle.check_laws.specs.Levels.{own, below};
 ghost use Rattle.check_laws.specs.Read.{joinedIn};
 ghost use Rattle.check_laws.specs.Ready.{Fit};
-ghost use Rattle.check_runs.specs.Kept.{sizeOf, Told};
-ghost use Rattle.check_next.specs.Table.{segmentsIn, Laid, Tabled};
+ghost use Rattle.check_runs.specs.Kept.{keptRoom, sizeOf, Told};
+ghost use Rattle.check_next.specs.Table.{room, segmentsIn, Laid, Tabled};
 ghost use Rattle.check_table.specs.Building.{Covers, BuiltAs};
 use crate::Built;
 use crate::find;
 use check_laws::Query;
 use check_laws::Span;
+use check_next::LevelPlaces;
+use check_next::ROOM;
+use check_next::Segments;
+use check_runs::KEPT;
 use check_runs::clause::size_of;
 use check_runs::marks::list_level;
 
-// How many segments a table has room for.
-const ROOM: usize = 288;
-
-const LEVELS: usize = 7;
+pub const LEVELS: usize = 7;
 
 // Stores the segments of level j behind those of the levels below it: what the relations of the level
 // allow, each from the first number on that passes the levels below. Returns the place behind the
@@ -31,23 +32,23 @@ fn fill_level<'a>(
     high: &'a [u32; 2048],
     s: Span,
     q: Query,
-    tiers: &[usize; 16],
-    starts: &mut [u32; 288],
-    ends: &mut [u32; 288],
-    at: &[usize; 8],
+    tiers: &[usize; KEPT],
+    starts: &mut Segments,
+    ends: &mut Segments,
+    at: &LevelPlaces,
     j: usize,
     m: u64,
 ) -> usize
-    requires { ⌜ Fit q × (s .to ≤ 320) × (s .stop ≤ 320) × (sizeOf s ≤ 16) × (j < 7) × (m ≡ 10 ^ j) × Told (table (now columns) (now low) (now high)) s q (now tiers) ⌝ }
+    requires { ⌜ Fit q × (s .to ≤ 320) × (s .stop ≤ 320) × (sizeOf s ≤ keptRoom) × (j < 7) × (m ≡ 10 ^ j) × Told (table (now columns) (now low) (now high)) s q (now tiers) ⌝ }
     requires { ⌜ Laid (now starts) (now ends) (now at) j ⌝ }
     requires { ⌜ Tabled (below q (joinedIn (table (now columns) (now low) (now high)) s)) (now starts) (now ends) (now at) j ⌝ }
     ensures { λ _. ⌜ Laid (now (starts .exit)) (now (ends .exit)) (now (at .entry)) j ⌝ }
     ensures { λ _. ⌜ Tabled (below q (joinedIn (table (now (columns .entry)) (now (low .entry)) (now (high .entry))) s)) (now (starts .exit)) (now (ends .exit)) (now (at .entry)) j ⌝ }
-    ensures { λ r. ⌜ (r ≤ 288 → Covers (own q (joinedIn (table (now (columns .entry)) (now (low .entry)) (now (high .entry))) s) j) (below q (joinedIn (table (now (columns .entry)) (now (low .entry)) (now (high .entry))) s) j) (segmentsIn (now (starts .exit)) (now (ends .exit)) (getD (now (at .entry)) j 0) r) (10 ^ j)) ⌝ }
+    ensures { λ r. ⌜ (r ≤ room → Covers (own q (joinedIn (table (now (columns .entry)) (now (low .entry)) (now (high .entry))) s) j) (below q (joinedIn (table (now (columns .entry)) (now (low .entry)) (now (high .entry))) s) j) (segmentsIn (now (starts .exit)) (now (ends .exit)) (getD (now (at .entry)) j 0) r) (10 ^ j)) ⌝ }
 {
-    let mut says = [false; 16];
-    let mut stop: [u64; 16] = [0; 16];
-    let mut list: [usize; 16] = [0; 16];
+    let mut says = [false; KEPT];
+    let mut stop: [u64; KEPT] = [0; KEPT];
+    let mut list: [usize; KEPT] = [0; KEPT];
     let count = list_level(tiers, size_of(s), j, &mut list);
     let mut n = at[j];
     let mut p: u64 = 0;
@@ -91,15 +92,15 @@ fn add_level<'a>(
     high: &'a [u32; 2048],
     s: Span,
     q: Query,
-    tiers: &[usize; 16],
+    tiers: &[usize; KEPT],
     on: bool,
-    starts: &mut [u32; 288],
-    ends: &mut [u32; 288],
-    at: &mut [usize; 8],
+    starts: &mut Segments,
+    ends: &mut Segments,
+    at: &mut LevelPlaces,
     j: usize,
     m: u64,
 ) -> Built
-    requires { ⌜ Fit q × (s .to ≤ 320) × (s .stop ≤ 320) × (sizeOf s ≤ 16) × (j < 7) × (m ≡ 10 ^ j) × Told (table (now columns) (now low) (now high)) s q (now tiers) ⌝ }
+    requires { ⌜ Fit q × (s .to ≤ 320) × (s .stop ≤ 320) × (sizeOf s ≤ keptRoom) × (j < 7) × (m ≡ 10 ^ j) × Told (table (now columns) (now low) (now high)) s q (now tiers) ⌝ }
     requires { ⌜ (on ≡ false → (x : ℕ) → own q (joinedIn (table (now columns) (now low) (now high)) s) j x ≡ true) ⌝ }
     requires { ⌜ Laid (now starts) (now ends) (now at) j ⌝ }
     requires { ⌜ Tabled (below q (joinedIn (table (now columns) (now low) (now high)) s)) (now starts) (now ends) (now at) j ⌝ }
@@ -128,13 +129,13 @@ pub fn build<'a>(
     high: &'a [u32; 2048],
     s: Span,
     q: Query,
-    tiers: &[usize; 16],
+    tiers: &[usize; KEPT],
     asked: &[bool; 9],
-    starts: &mut [u32; 288],
-    ends: &mut [u32; 288],
-    at: &mut [usize; 8],
+    starts: &mut Segments,
+    ends: &mut Segments,
+    at: &mut LevelPlaces,
 ) -> Built
-    requires { ⌜ Fit q × (s .to ≤ 320) × (s .stop ≤ 320) × (sizeOf s ≤ 16) × Told (table (now columns) (now low) (now high)) s q (now tiers) ⌝ }
+    requires { ⌜ Fit q × (s .to ≤ 320) × (s .stop ≤ 320) × (sizeOf s ≤ keptRoom) × Told (table (now columns) (now low) (now high)) s q (now tiers) ⌝ }
     requires { ⌜ ((j : ℕ) → j < 9 → getD (now asked) j false ≡ false → (x : ℕ) → own q (joinedIn (table (now columns) (now low) (now high)) s) j x ≡ true) ⌝ }
     requires { ⌜ Laid (now starts) (now ends) (now at) 0 ⌝ }
     ensures { λ r. ⌜ BuiltAs (below q (joinedIn (table (now (columns .entry)) (now (low .entry)) (now (high .entry))) s)) (now (starts .exit)) (now (ends .exit)) (now (at .exit)) 7 r ⌝ }

@@ -1,11 +1,11 @@
--- `check_pairs::profiled::put` sets one of forty.
+-- `check_clauses::profiled::put` sets one of forty.
 use native.Mathlib.Omega.{arith}
 use Prim.Native.Nat.{_<_}
 use lib.ListN.{length}
 use lib.Seq.{getD-set-same, getD-set-other}
 use borrow.Author.Needs.{needs}
-use Rattle.check_pairs.proofs.profiled.put.Statement.{statement}
-use Rattle.check_pairs.proofs.profiled.put.Tie as tie
+use Rattle.check_clauses.proofs.profiled.put.Statement.{statement}
+use Rattle.check_clauses.proofs.profiled.put.Tie as tie
 
 lent-requires : tie.Need-lent-requires
 lent-requires c κs = search needs

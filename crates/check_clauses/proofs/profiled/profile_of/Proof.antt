@@ -1,10 +1,10 @@
--- `check_pairs::profiled::profile_of` is that of the clause's stretch.
+-- `check_clauses::profiled::profile_of` is that of the clause's stretch.
 use Rattle.rules.specs.Stretch.{table}
 use native.Mathlib.Omega.{arith}
 use Rattle.check_laws.proofs.Profiles.{profile-clause}
 use borrow.Author.Needs.{needs}
-use Rattle.check_pairs.proofs.profiled.profile_of.Statement.{statement}
-use Rattle.check_pairs.proofs.profiled.profile_of.Tie as tie
+use Rattle.check_clauses.proofs.profiled.profile_of.Statement.{statement}
+use Rattle.check_clauses.proofs.profiled.profile_of.Tie as tie
 
 relations-start-requires : tie.Need-relations-start-requires
 relations-start-requires c κs = search needs

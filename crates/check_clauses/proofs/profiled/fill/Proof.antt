@@ -1,4 +1,4 @@
--- `check_pairs::profiled::fill` puts in those of each clause in turn. Invariant: those before are in.
+-- `check_clauses::profiled::fill` puts in those of each clause in turn. Invariant: those before are in.
 use Rattle.rules.specs.Stretch.{table}
 use mathlib.Core.Path.{_≡_, subst}
 use native.Mathlib.Omega.{arith}
@@ -6,8 +6,8 @@ use Prim.Native.Nat.{_-_, _≤_}
 use Rattle.check_laws.specs.Profile.{Profiled}
 use Rattle.check_laws.proofs.Profiles.{profiled-none, profiled-more}
 use borrow.Author.Needs.{needs}
-use Rattle.check_pairs.proofs.profiled.fill.Statement.{statement}
-use Rattle.check_pairs.proofs.profiled.fill.Tie as tie
+use Rattle.check_clauses.proofs.profiled.fill.Statement.{statement}
+use Rattle.check_clauses.proofs.profiled.fill.Tie as tie
 
 abbrev Inv-loop : tie.InvT-loop
 Inv-loop columns low high relations profiles₀ to j₀ profiles j = (to ≤ 40) × (j ≤ to) × Profiled (table columns low high) relations profiles j

@@ -1,8 +1,8 @@
--- `check_pairs::floors::is_long` compares the count of ranges.
+-- `check_clauses::floors::is_long` compares the count of ranges.
 use Rattle.check_laws.proofs.Flooring.{long-none, long-less, long-some}
 use borrow.Author.Needs.{needs}
-use Rattle.check_pairs.proofs.floors.is_long.Statement.{statement}
-use Rattle.check_pairs.proofs.floors.is_long.Tie as tie
+use Rattle.check_clauses.proofs.floors.is_long.Statement.{statement}
+use Rattle.check_clauses.proofs.floors.is_long.Tie as tie
 
 returns : tie.Need-returns
 returns c = long-none (c .before .args .columns .now) 24 (c .before .args .from) (c .before .args .to) (search needs)

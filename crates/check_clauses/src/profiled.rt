@@ -4,7 +4,7 @@ ghost use Prim.Native.Nat.{ℕ, _≤_, _<_};
 ghost use lib.ListN.{getD};
 ghost use Rattle.check_laws.specs.Profile.{profileOf, Profiled};
 ghost use Rattle.rules.specs.Stretch.{table, clauseAt};
-use crate::joined;
+use crate::ends;
 
 // The profile of the clause j.
 fn profile_of<'a>(
@@ -17,8 +17,8 @@ fn profile_of<'a>(
     requires { ⌜ j < 40 ⌝ }
     ensures { λ r. ⌜ r ≡ profileOf (clauseAt (table (now (columns .entry)) (now (low .entry)) (now (high .entry))) (now (relations .entry)) j) ⌝ }
 {
-    let from = joined::relations_start(relations, j);
-    let to = joined::relations_stop(relations, j);
+    let from = ends::relations_start(relations, j);
+    let to = ends::relations_stop(relations, j);
     check_profile::clause_profile(columns, low, high, from, to)
 }
 

@@ -1,11 +1,11 @@
--- `check_pairs::joined::clauses_end` takes the furthest. Invariant: those before are within.
+-- `check_clauses::ends::clauses_end` takes the furthest. Invariant: those before are within.
 use native.Mathlib.Omega.{arith}
 use Prim.Native.Nat.{ℕ, _-_, _≤_, _<_, min}
 use lib.ListN.{getD}
 use Rattle.check_laws.proofs.Profiles.{reaches-none, reaches-more}
 use borrow.Author.Needs.{needs}
-use Rattle.check_pairs.proofs.joined.clauses_end.Statement.{statement}
-use Rattle.check_pairs.proofs.joined.clauses_end.Tie as tie
+use Rattle.check_clauses.proofs.ends.clauses_end.Statement.{statement}
+use Rattle.check_clauses.proofs.ends.clauses_end.Tie as tie
 
 abbrev Inv-loop : tie.InvT-loop
 Inv-loop ends n end₀ p₀ end p = (p ≤ n) × (end ≤ 40) × ((k : ℕ) → k < p → min (getD ends k 0) 40 ≤ end)

@@ -1,5 +1,5 @@
-// The limits of admitted numbers (crate number, specs/Limits.antt), and the counts that follow from
-// them, each once.
+// Limits, each once: those of admitted numbers (crate number, specs/Limits.antt) with the counts that follow
+// from them, and the room in a parsed pack's arrays.
 pub const MAX_EXPONENT: u64 = 14;
 
 // past the largest: no number was found
@@ -14,3 +14,10 @@ pub const INTEGER_LIMIT: u64 = 1_000_000_000_000_000;
 pub const FRACTION_LIMIT: u64 = 1_000_000_000;
 
 pub const FRACTIONS: u64 = 10_000_000_000;
+
+// How many relations, clauses and rules the arrays hold.
+pub const RELATION_ROOM: usize = 320;
+
+pub const CLAUSE_ROOM: usize = 40;
+
+pub const RULE_ROOM: usize = 6;

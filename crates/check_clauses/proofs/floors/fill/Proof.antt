@@ -1,12 +1,12 @@
--- `check_pairs::floors::fill` puts in those of each clause in turn. Invariant: the arrays hold floors.
+-- `check_clauses::floors::fill` puts in those of each clause in turn. Invariant: the arrays hold floors.
 use native.Mathlib.Omega.{arith}
 use Prim.Native.Nat.{_-_, _≤_}
 use Rattle.rules.specs.Stretch.{table}
 use Rattle.check_laws.specs.Floors.{Floored}
 use Rattle.check_laws.proofs.Flooring.{floored-set}
 use borrow.Author.Needs.{needs}
-use Rattle.check_pairs.proofs.floors.fill.Statement.{statement}
-use Rattle.check_pairs.proofs.floors.fill.Tie as tie
+use Rattle.check_clauses.proofs.floors.fill.Statement.{statement}
+use Rattle.check_clauses.proofs.floors.fill.Tie as tie
 
 abbrev Inv-loop : tie.InvT-loop
 Inv-loop columns low high relations whole₀ part₀ tail₀ to j₀ whole part tail j =

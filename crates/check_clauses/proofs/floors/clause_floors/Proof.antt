@@ -1,10 +1,10 @@
--- `check_pairs::floors::clause_floors`: zeros, or those of the clause as one stretch beside an empty one.
+-- `check_clauses::floors::clause_floors`: zeros, or those of the clause as one stretch beside an empty one.
 use native.Mathlib.Omega.{arith}
 use Rattle.rules.specs.Stretch.{table, clauseAt}
 use Rattle.check_laws.proofs.Flooring.{under-none, under-one}
 use borrow.Author.Needs.{needs}
-use Rattle.check_pairs.proofs.floors.clause_floors.Statement.{statement}
-use Rattle.check_pairs.proofs.floors.clause_floors.Tie as tie
+use Rattle.check_clauses.proofs.floors.clause_floors.Statement.{statement}
+use Rattle.check_clauses.proofs.floors.clause_floors.Tie as tie
 
 relations-start-requires : tie.Need-relations-start-requires
 relations-start-requires c κs = search needs

@@ -6,7 +6,7 @@ ghost use Prim.Native.Nat.{ℕ, max, _≤_, _<_};
 ghost use lib.ListN.{getD};
 ghost use Rattle.check_laws.specs.Floors.{Floored, Under, longIn};
 ghost use Rattle.rules.specs.Stretch.{table, clauseAt};
-use crate::joined;
+use crate::ends;
 use check_laws::Floors;
 use check_laws::Span;
 use decimal::num::greater;
@@ -42,8 +42,8 @@ fn clause_floors<'a>(
     requires { ⌜ j < 40 ⌝ }
     ensures { λ r. ⌜ Under (clauseAt (table (now (columns .entry)) (now (low .entry)) (now (high .entry))) (now (relations .entry)) j) r ⌝ }
 {
-    let from = joined::relations_start(relations, j);
-    let to = joined::relations_stop(relations, j);
+    let from = ends::relations_start(relations, j);
+    let to = ends::relations_stop(relations, j);
     if !is_long(columns, from, to) {
         return Floors {
             whole: 0,

@@ -1,0 +1,64 @@
+// Where the relations of a clause stand, and the clauses of a rule, by the places where they end.
+ghost use mathlib.Core.Path.{_≡_};
+ghost use Prim.Native.Nat.{ℕ, _≤_, _<_, min};
+ghost use lib.ListN.{getD};
+ghost use Rattle.rules.specs.Stretch.{startAt};
+use check_laws::limits::CLAUSE_ROOM;
+use check_laws::limits::RELATION_ROOM;
+use decimal::num::further;
+
+// Where the relations of the clause k begin, and where they end.
+pub fn relations_start(ends: &[usize; 40], k: usize) -> usize
+    requires { ⌜ k < 40 ⌝ }
+    ensures { λ r. ⌜ r ≡ startAt (now (ends .entry)) k ⌝ }
+{
+    if k == 0 {
+        return 0;
+    }
+    ends[k - 1]
+}
+
+pub fn relations_stop(ends: &[usize; 40], k: usize) -> usize
+    requires { ⌜ k < 40 ⌝ }
+    ensures { λ r. ⌜ r ≡ min (getD (now (ends .entry)) k 0) 320 ⌝ }
+{
+    let end = ends[k];
+    if end < RELATION_ROOM {
+        end
+    } else {
+        RELATION_ROOM
+    }
+}
+
+// Where the clauses of the rule p begin, and where they end.
+pub fn clauses_start(ends: &[usize; 6], p: usize) -> usize
+    requires { ⌜ p < 6 ⌝ }
+    ensures { λ r. ⌜ r ≡ startAt (now (ends .entry)) p ⌝ }
+{
+    if p == 0 {
+        return 0;
+    }
+    ends[p - 1]
+}
+
+pub fn clauses_stop(ends: &[usize; 6], p: usize) -> usize
+    requires { ⌜ p < 6 ⌝ }
+    ensures { λ r. ⌜ r ≡ min (getD (now (ends .entry)) p 0) 40 ⌝ }
+{
+    let end = ends[p];
+    if end < CLAUSE_ROOM { end } else { CLAUSE_ROOM }
+}
+
+// Past the clauses that the first n rules have.
+pub fn clauses_end(ends: &[usize; 6], n: usize) -> usize
+    requires { ⌜ n ≤ 6 ⌝ }
+    ensures { λ r. ⌜ (r ≤ 40) × ((p : ℕ) → p < n → min (getD (now (ends .entry)) p 0) 40 ≤ r) ⌝ }
+{
+    let mut end: usize = 0;
+    let mut p: usize = 0;
+    while p < n {
+        end = further(end, clauses_stop(ends, p));
+        p += 1;
+    }
+    end
+}
