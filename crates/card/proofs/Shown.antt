@@ -3,11 +3,11 @@
 use mathlib.Core.Path.{_≡_, refl}
 use mathlib.Core.List.{List, [], _∷_}
 use Prim.Native.Nat.{ℕ}
-use Rattle.rules.specs.Syntax.{Rule}
+use Rattle.pack_rules.specs.Syntax.{Rule}
 use Rattle.symbols.specs.Kinds.{kindOf}
 use Rattle.layout.specs.Layout.{spell}
-use Rattle.grammar.specs.Reader.{readPack}
-use Rattle.grammar.specs.Reader.PackAnswer.{Rules}
+use Rattle.pack_grammar.specs.Reader.{readPack}
+use Rattle.pack_grammar.specs.Reader.PackAnswer.{Rules}
 use Rattle.check_laws.specs.Check.{checkOf}
 use Rattle.check_laws.specs.declared.Checked.{Checked}
 use Rattle.check_laws.specs.declared.Checked.the-variants.{Passes}

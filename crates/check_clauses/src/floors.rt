@@ -5,19 +5,24 @@ ghost use mathlib.Core.List.{List};
 ghost use Prim.Native.Nat.{ℕ, max, _≤_, _<_};
 ghost use lib.ListN.{getD};
 ghost use Rattle.check_laws.specs.Floors.{Floored, Under, longIn};
-ghost use Rattle.rules.specs.Stretch.{table, clauseAt};
+ghost use Rattle.pack_rules.specs.Room.{clauseRoom, relationRoom};
+ghost use Rattle.pack_rules.specs.Stretch.{table, clauseAt};
+use crate::PerClause;
 use crate::ends;
 use check_laws::Floors;
 use check_laws::Span;
 use decimal::num::greater;
-use rules::from_at;
+use pack_rules::ClauseEnds;
+use pack_rules::Columns;
+use pack_rules::RangeEnds;
+use pack_rules::from_at;
 
 // A clause with more ranges is long: a shorter one is searched as quickly as its floors are found.
 const LONG: usize = 24;
 
 // Whether the relations from place `from` to before `to` have many ranges.
-fn is_long(columns: &[u32; 1280], from: usize, to: usize) -> bool
-    requires { ⌜ to ≤ 320 ⌝ }
+fn is_long(columns: &Columns, from: usize, to: usize) -> bool
+    requires { ⌜ to ≤ relationRoom ⌝ }
     ensures { λ r. ⌜ r ≡ longIn (now (columns .entry)) 24 from to ⌝ }
 {
     if to <= from {
@@ -33,13 +38,13 @@ fn is_long(columns: &[u32; 1280], from: usize, to: usize) -> bool
 
 // The floors of the clause j: zeros where it is not long.
 fn clause_floors<'a>(
-    columns: &'a [u32; 1280],
-    low: &'a [u32; 2048],
-    high: &'a [u32; 2048],
-    relations: &'a [usize; 40],
+    columns: &'a Columns,
+    low: &'a RangeEnds,
+    high: &'a RangeEnds,
+    relations: &'a ClauseEnds,
     j: usize,
 ) -> Floors
-    requires { ⌜ j < 40 ⌝ }
+    requires { ⌜ j < clauseRoom ⌝ }
     ensures { λ r. ⌜ Under (clauseAt (table (now (columns .entry)) (now (low .entry)) (now (high .entry))) (now (relations .entry)) j) r ⌝ }
 {
     let from = ends::relations_start(relations, j);
@@ -60,8 +65,8 @@ fn clause_floors<'a>(
     check_search::floors_of(columns, low, high, s)
 }
 
-fn higher(floors: &[u64; 40], k: usize, l: usize) -> u64
-    requires { ⌜ (k < 40) × (l < 40) ⌝ }
+fn higher(floors: &PerClause, k: usize, l: usize) -> u64
+    requires { ⌜ (k < clauseRoom) × (l < clauseRoom) ⌝ }
     ensures { λ r. ⌜ r ≡ max (getD (now (floors .entry)) k 0) (getD (now (floors .entry)) l 0) ⌝ }
 {
     greater(floors[k], floors[l])
@@ -69,13 +74,13 @@ fn higher(floors: &[u64; 40], k: usize, l: usize) -> u64
 
 // The floors of the clauses k and l joined: what one of them does not allow, both do not.
 pub fn pair_floors<'a>(
-    whole: &'a [u64; 40],
-    part: &'a [u64; 40],
-    tail: &'a [u64; 40],
+    whole: &'a PerClause,
+    part: &'a PerClause,
+    tail: &'a PerClause,
     k: usize,
     l: usize,
 ) -> Floors
-    requires { ⌜ (k < 40) × (l < 40) ⌝ }
+    requires { ⌜ (k < clauseRoom) × (l < clauseRoom) ⌝ }
     ensures { λ r. ⌜ (r .whole ≡ max (getD (now (whole .entry)) k 0) (getD (now (whole .entry)) l 0)) × (r .part ≡ max (getD (now (part .entry)) k 0) (getD (now (part .entry)) l 0)) × (r .tail ≡ max (getD (now (tail .entry)) k 0) (getD (now (tail .entry)) l 0)) ⌝ }
 {
     Floors {
@@ -87,16 +92,16 @@ pub fn pair_floors<'a>(
 
 // Fills in the floors of the first `to` clauses.
 pub fn fill<'a>(
-    columns: &'a [u32; 1280],
-    low: &'a [u32; 2048],
-    high: &'a [u32; 2048],
-    relations: &'a [usize; 40],
-    whole: &mut [u64; 40],
-    part: &mut [u64; 40],
-    tail: &mut [u64; 40],
+    columns: &'a Columns,
+    low: &'a RangeEnds,
+    high: &'a RangeEnds,
+    relations: &'a ClauseEnds,
+    whole: &mut PerClause,
+    part: &mut PerClause,
+    tail: &mut PerClause,
     to: usize,
 )
-    requires { ⌜ (to ≤ 40) × Floored (table (now columns) (now low) (now high)) (now relations) (now whole) (now part) (now tail) ⌝ }
+    requires { ⌜ (to ≤ clauseRoom) × Floored (table (now columns) (now low) (now high)) (now relations) (now whole) (now part) (now tail) ⌝ }
     ensures { λ _. ⌜ Floored (table (now (columns .entry)) (now (low .entry)) (now (high .entry))) (now (relations .entry)) (now (whole .exit)) (now (part .exit)) (now (tail .exit)) ⌝ }
 {
     let mut j: usize = 0;

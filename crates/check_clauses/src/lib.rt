@@ -7,3 +7,8 @@
 pub mod ends;
 pub mod floors;
 pub mod profiled;
+
+use pack_rules::CLAUSE_ROOM;
+
+// A number for each clause of a pack.
+pub type PerClause = [u64; CLAUSE_ROOM];

@@ -3,18 +3,23 @@ ghost use mathlib.Core.Path.{_≡_};
 ghost use Prim.Native.Nat.{ℕ, _≤_, _<_};
 ghost use lib.ListN.{getD};
 ghost use Rattle.check_laws.specs.Profile.{profileOf, Profiled};
-ghost use Rattle.rules.specs.Stretch.{table, clauseAt};
+ghost use Rattle.pack_rules.specs.Room.{clauseRoom};
+ghost use Rattle.pack_rules.specs.Stretch.{table, clauseAt};
+use crate::PerClause;
 use crate::ends;
+use pack_rules::ClauseEnds;
+use pack_rules::Columns;
+use pack_rules::RangeEnds;
 
 // The profile of the clause j.
 fn profile_of<'a>(
-    columns: &'a [u32; 1280],
-    low: &'a [u32; 2048],
-    high: &'a [u32; 2048],
-    relations: &'a [usize; 40],
+    columns: &'a Columns,
+    low: &'a RangeEnds,
+    high: &'a RangeEnds,
+    relations: &'a ClauseEnds,
     j: usize,
 ) -> u64
-    requires { ⌜ j < 40 ⌝ }
+    requires { ⌜ j < clauseRoom ⌝ }
     ensures { λ r. ⌜ r ≡ profileOf (clauseAt (table (now (columns .entry)) (now (low .entry)) (now (high .entry))) (now (relations .entry)) j) ⌝ }
 {
     let from = ends::relations_start(relations, j);
@@ -26,8 +31,8 @@ fn profile_of<'a>(
 fn lent(profiles: &[u64]) {}
 
 // Puts in one profile.
-fn put(profiles: &mut [u64; 40], j: usize, p: u64)
-    requires { ⌜ j < 40 ⌝ }
+fn put(profiles: &mut PerClause, j: usize, p: u64)
+    requires { ⌜ j < clauseRoom ⌝ }
     ensures { λ _. ⌜ (getD (now (profiles .exit)) j 0 ≡ p) × ((k : ℕ) → (k ≡ j → ⊥) → getD (now (profiles .exit)) k 0 ≡ getD (now (profiles .entry)) k 0) ⌝ }
 {
     lent(profiles);
@@ -36,14 +41,14 @@ fn put(profiles: &mut [u64; 40], j: usize, p: u64)
 
 // Fills in the profiles of the first `to` clauses.
 pub fn fill<'a>(
-    columns: &'a [u32; 1280],
-    low: &'a [u32; 2048],
-    high: &'a [u32; 2048],
-    relations: &'a [usize; 40],
-    profiles: &mut [u64; 40],
+    columns: &'a Columns,
+    low: &'a RangeEnds,
+    high: &'a RangeEnds,
+    relations: &'a ClauseEnds,
+    profiles: &mut PerClause,
     to: usize,
 )
-    requires { ⌜ to ≤ 40 ⌝ }
+    requires { ⌜ to ≤ clauseRoom ⌝ }
     ensures { λ _. ⌜ Profiled (table (now (columns .entry)) (now (low .entry)) (now (high .entry))) (now (relations .entry)) (now (profiles .exit)) to ⌝ }
 {
     let mut j: usize = 0;

@@ -11,9 +11,9 @@ use borrow.Author.Tests.{eqb-true, eq-eqb, ne-eqb, le-leb, lt-leb, lt-ltb, le-lt
 use Rattle.decimal.specs.Choice.{if_then_else_, both, either}
 use Rattle.decimal.specs.Lists.{all, any}
 use Rattle.decimal.proofs.Choices.{both-true}
-use Rattle.rules.specs.Syntax.{Range, Relation}
-use Rattle.rules.specs.Stretch.{stretch, rangeAt, rangesIn}
-use Rattle.rules.proofs.Stretches.{stretch-nil, stretch-snoc, stretch-same}
+use Rattle.pack_rules.specs.Syntax.{Range, Relation}
+use Rattle.pack_rules.specs.Stretch.{stretch, rangeAt, rangesIn}
+use Rattle.pack_rules.proofs.Stretches.{stretch-nil, stretch-snoc, stretch-same}
 use Rattle.select.specs.Select.{maskOf}
 use Rattle.check_laws.proofs.Seeking.{split, and-true, or-true-left, or-true-right, and-false-left, and-false-right}
 use Rattle.check_laws.specs.Profile.{valuesOf, round, reaches, spares, endsIn}

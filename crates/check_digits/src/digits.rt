@@ -3,12 +3,14 @@ ghost use mathlib.Core.Path.{_≡_};
 ghost use mathlib.Core.Bool.{not};
 ghost use Prim.Native.Nat.{ℕ, _+_, _-_, _*_, _%_, _^_, _≤_, _<_, min};
 ghost use Rattle.decimal.specs.Lists.{all, any};
-ghost use Rattle.rules.specs.Stretch.{rangesIn, relationBy};
+ghost use Rattle.pack_rules.specs.Room.{rangeRoom};
+ghost use Rattle.pack_rules.specs.Stretch.{rangesIn, relationBy};
 ghost use Rattle.check_laws.specs.Profile.{valuesOf, round, reaches, spares, endsIn};
 use crate::values::with_bit;
 use decimal::num::less_by;
 use decimal::num::wide;
-use rules::Single;
+use pack_rules::RangeEnds;
+use pack_rules::Single;
 
 // Every digit.
 const EACH: u64 = 1_023;
@@ -42,8 +44,8 @@ fn reached(a: u32, b: u32) -> u64
 }
 
 // The digits in one of which ends a number in a range from place `from` to before `to`.
-fn any_reached<'a>(low: &'a [u32; 2048], high: &'a [u32; 2048], from: usize, to: usize) -> u64
-    requires { ⌜ to ≤ 2048 ⌝ }
+fn any_reached<'a>(low: &'a RangeEnds, high: &'a RangeEnds, from: usize, to: usize) -> u64
+    requires { ⌜ to ≤ rangeRoom ⌝ }
     ensures { λ r. ⌜ (r ≡ valuesOf (λ (d : ℕ). any (reaches d) (rangesIn (now (low .entry)) (now (high .entry)) from to)) 10) × (r < 1_024) ⌝ }
 {
     let mut mask: u64 = 0;
@@ -92,14 +94,8 @@ fn spared(a: u32, b: u32, m: u32) -> u64
 }
 
 // The digits that each range from place `from` to before `to` spares.
-fn all_spared<'a>(
-    low: &'a [u32; 2048],
-    high: &'a [u32; 2048],
-    from: usize,
-    to: usize,
-    m: u32,
-) -> u64
-    requires { ⌜ to ≤ 2048 ⌝ }
+fn all_spared<'a>(low: &'a RangeEnds, high: &'a RangeEnds, from: usize, to: usize, m: u32) -> u64
+    requires { ⌜ to ≤ rangeRoom ⌝ }
     ensures { λ r. ⌜ (r ≡ valuesOf (λ (d : ℕ). all (spares m d) (rangesIn (now (low .entry)) (now (high .entry)) from to)) 10) × (r < 1_024) ⌝ }
 {
     let mut mask = EACH;
@@ -112,8 +108,8 @@ fn all_spared<'a>(
 }
 
 // The last digits of the numbers that the relation may hold of.
-pub fn digits_of<'a>(low: &'a [u32; 2048], high: &'a [u32; 2048], s: Single) -> u64
-    requires { ⌜ s .to ≤ 2048 ⌝ }
+pub fn digits_of<'a>(low: &'a RangeEnds, high: &'a RangeEnds, s: Single) -> u64
+    requires { ⌜ s .to ≤ rangeRoom ⌝ }
     ensures { λ r. ⌜ (r ≡ valuesOf (λ (d : ℕ). endsIn d (relationBy (now (low .entry)) (now (high .entry)) s)) 10) × (r < 1_024) ⌝ }
 {
     let m = s.modulus;

@@ -3,7 +3,8 @@ ghost use mathlib.Core.Path.{_≡_};
 ghost use mathlib.Core.Bool.{true};
 ghost use Prim.Native.Nat.{suc, _+_, _*_, _≤_, _<_};
 ghost use Rattle.number.specs.Limits.{maxExponent, maxPlaces};
-ghost use Rattle.rules.specs.Stretch.{relationBy};
+ghost use Rattle.pack_rules.specs.Room.{rangeRoom};
+ghost use Rattle.pack_rules.specs.Stretch.{relationBy};
 ghost use Rattle.select.specs.Select.{bit};
 ghost use Rattle.check_laws.specs.Bounded.{fromTo};
 ghost use Rattle.check_laws.specs.Fast.{test};
@@ -12,7 +13,8 @@ use check_laws::Bounds;
 use check_laws::limits;
 use check_relation::relation::holds_of;
 use decimal::Places;
-use rules::Single;
+use pack_rules::RangeEnds;
+use pack_rules::Single;
 
 const EXPONENTS: u64 = limits::MAX_EXPONENT + 1;
 
@@ -32,8 +34,8 @@ pub fn with_bit(mask: u64, place: u64, on: bool) -> u64
 }
 
 // The values below n at which the relation holds.
-fn values_of<'a>(low: &'a [u32; 2048], high: &'a [u32; 2048], s: Single, n: u64) -> u64
-    requires { ⌜ (s .to ≤ 2048) × (n ≤ 15) ⌝ }
+fn values_of<'a>(low: &'a RangeEnds, high: &'a RangeEnds, s: Single, n: u64) -> u64
+    requires { ⌜ (s .to ≤ rangeRoom) × (n ≤ 15) ⌝ }
     ensures { λ r. ⌜ r ≡ valuesOf (test (relationBy (now (low .entry)) (now (high .entry)) s)) n ⌝ }
 {
     let mut mask: u64 = 0;
@@ -49,23 +51,23 @@ fn values_of<'a>(low: &'a [u32; 2048], high: &'a [u32; 2048], s: Single, n: u64)
 }
 
 // The e, and the v or w, at which it holds.
-pub fn exponents_of<'a>(low: &'a [u32; 2048], high: &'a [u32; 2048], s: Single) -> u64
-    requires { ⌜ s .to ≤ 2048 ⌝ }
+pub fn exponents_of<'a>(low: &'a RangeEnds, high: &'a RangeEnds, s: Single) -> u64
+    requires { ⌜ s .to ≤ rangeRoom ⌝ }
     ensures { λ r. ⌜ (r ≡ valuesOf (test (relationBy (now (low .entry)) (now (high .entry)) s)) (suc maxExponent)) × (r < 32_768) ⌝ }
 {
     values_of(low, high, s, EXPONENTS)
 }
 
-pub fn places_of<'a>(low: &'a [u32; 2048], high: &'a [u32; 2048], s: Single) -> u64
-    requires { ⌜ s .to ≤ 2048 ⌝ }
+pub fn places_of<'a>(low: &'a RangeEnds, high: &'a RangeEnds, s: Single) -> u64
+    requires { ⌜ s .to ≤ rangeRoom ⌝ }
     ensures { λ r. ⌜ (r ≡ valuesOf (test (relationBy (now (low .entry)) (now (high .entry)) s)) (suc maxPlaces)) × (r < 1_024) ⌝ }
 {
     values_of(low, high, s, PLACES)
 }
 
 // Whether it holds at 0, as a bit.
-pub fn zero_of<'a>(low: &'a [u32; 2048], high: &'a [u32; 2048], s: Single) -> u64
-    requires { ⌜ s .to ≤ 2048 ⌝ }
+pub fn zero_of<'a>(low: &'a RangeEnds, high: &'a RangeEnds, s: Single) -> u64
+    requires { ⌜ s .to ≤ rangeRoom ⌝ }
     ensures { λ r. ⌜ (r ≡ bit (test (relationBy (now (low .entry)) (now (high .entry)) s) 0)) × (r ≤ 1) ⌝ }
 {
     if holds_of(low, high, s, 0) { 1 } else { 0 }

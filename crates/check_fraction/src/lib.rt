@@ -12,7 +12,8 @@ ghost use Rattle.check_laws.specs.Fast.{alone, aloneOf, leastF, asksOf, tailOf,
 ghost use Rattle.check_laws.specs.Floors.{NoneBelow};
 ghost use Rattle.check_laws.specs.Profile.{profileOf, Settled};
 ghost use Rattle.check_laws.specs.Read.{joinedIn};
-ghost use Rattle.rules.specs.Stretch.{table};
+ghost use Rattle.pack_rules.specs.Room.{relationRoom};
+ghost use Rattle.pack_rules.specs.Stretch.{table};
 use check_laws::Bounds;
 use check_laws::Query;
 use check_laws::Span;
@@ -21,17 +22,19 @@ use check_places::floor;
 use check_places::places;
 use decimal::num::lesser;
 use decimal::num::power;
+use pack_rules::Columns;
+use pack_rules::RangeEnds;
 
 // The least t before k zeros, by a search; there is none below the least by what is asked of t alone.
 fn tail_of<'a>(
-    columns: &'a [u32; 1280],
-    low: &'a [u32; 2048],
-    high: &'a [u32; 2048],
+    columns: &'a Columns,
+    low: &'a RangeEnds,
+    high: &'a RangeEnds,
     s: Span,
     k: u64,
     least: u64,
 ) -> u64
-    requires { ⌜ (k < maxPlaces) × (s .to ≤ 320) × (s .stop ≤ 320) × (least ≡ aloneOf (joinedIn (table (now columns) (now low) (now high)) s)) ⌝ }
+    requires { ⌜ (k < maxPlaces) × (s .to ≤ relationRoom) × (s .stop ≤ relationRoom) × (least ≡ aloneOf (joinedIn (table (now columns) (now low) (now high)) s)) ⌝ }
     ensures { λ r. ⌜ r ≡ tailOf k (joinedIn (table (now (columns .entry)) (now (low .entry)) (now (high .entry))) s) ⌝ }
 {
     let ten = power(k);
@@ -48,13 +51,13 @@ fn tail_of<'a>(
 
 // The least t by what is asked of t alone; there is none below the floor.
 pub fn alone_of<'a>(
-    columns: &'a [u32; 1280],
-    low: &'a [u32; 2048],
-    high: &'a [u32; 2048],
+    columns: &'a Columns,
+    low: &'a RangeEnds,
+    high: &'a RangeEnds,
     s: Span,
     floor: u64,
 ) -> u64
-    requires { ⌜ (s .to ≤ 320) × (s .stop ≤ 320) × NoneBelow alone (joinedIn (table (now columns) (now low) (now high)) s) floor ⌝ }
+    requires { ⌜ (s .to ≤ relationRoom) × (s .stop ≤ relationRoom) × NoneBelow alone (joinedIn (table (now columns) (now low) (now high)) s) floor ⌝ }
     ensures { λ r. ⌜ r ≡ aloneOf (joinedIn (table (now (columns .entry)) (now (low .entry)) (now (high .entry))) s) ⌝ }
 {
     let q = Query {
@@ -70,15 +73,15 @@ pub fn alone_of<'a>(
 // The least t before k zeros, where t is the least by what is asked of t alone: where no relation asks f,
 // there is no more to ask.
 fn tail_at<'a>(
-    columns: &'a [u32; 1280],
-    low: &'a [u32; 2048],
-    high: &'a [u32; 2048],
+    columns: &'a Columns,
+    low: &'a RangeEnds,
+    high: &'a RangeEnds,
     s: Span,
     k: u64,
     t: u64,
     spared: bool,
 ) -> u64
-    requires { ⌜ (k < maxPlaces) × (s .to ≤ 320) × (s .stop ≤ 320) × (t ≡ aloneOf (joinedIn (table (now columns) (now low) (now high)) s)) × (spared ≡ not (asksOf 102 (joinedIn (table (now columns) (now low) (now high)) s))) ⌝ }
+    requires { ⌜ (k < maxPlaces) × (s .to ≤ relationRoom) × (s .stop ≤ relationRoom) × (t ≡ aloneOf (joinedIn (table (now columns) (now low) (now high)) s)) × (spared ≡ not (asksOf 102 (joinedIn (table (now columns) (now low) (now high)) s))) ⌝ }
     ensures { λ r. ⌜ r ≡ tailOf k (joinedIn (table (now (columns .entry)) (now (low .entry)) (now (high .entry))) s) ⌝ }
 {
     if spared {
@@ -89,9 +92,9 @@ fn tail_at<'a>(
 
 // The least v and f, where f ends in k zeros and is not 0. There is no search where no v is settled.
 fn tail_code<'a>(
-    columns: &'a [u32; 1280],
-    low: &'a [u32; 2048],
-    high: &'a [u32; 2048],
+    columns: &'a Columns,
+    low: &'a RangeEnds,
+    high: &'a RangeEnds,
     s: Span,
     b: Bounds,
     vs: u64,
@@ -100,7 +103,7 @@ fn tail_code<'a>(
     t: u64,
     spared: bool,
 ) -> u64
-    requires { ⌜ (k < maxPlaces) × (s .to ≤ 320) × (s .stop ≤ 320) × (t ≡ aloneOf (joinedIn (table (now columns) (now low) (now high)) s)) × (spared ≡ not (asksOf 102 (joinedIn (table (now columns) (now low) (now high)) s))) ⌝ }
+    requires { ⌜ (k < maxPlaces) × (s .to ≤ relationRoom) × (s .stop ≤ relationRoom) × (t ≡ aloneOf (joinedIn (table (now columns) (now low) (now high)) s)) × (spared ≡ not (asksOf 102 (joinedIn (table (now columns) (now low) (now high)) s))) ⌝ }
     requires { ⌜ Settled (bounded b (joinedIn (table (now columns) (now low) (now high)) s)) vs ws ⌝ }
     ensures { λ r. ⌜ r ≡ tailCode k (bounded b (joinedIn (table (now (columns .entry)) (now (low .entry)) (now (high .entry))) s)) ⌝ }
 {
@@ -117,9 +120,9 @@ fn tail_code<'a>(
 
 // The least over the zeros at the end of f. More zeros need more places than one that is found may have.
 fn least_code<'a>(
-    columns: &'a [u32; 1280],
-    low: &'a [u32; 2048],
-    high: &'a [u32; 2048],
+    columns: &'a Columns,
+    low: &'a RangeEnds,
+    high: &'a RangeEnds,
     s: Span,
     b: Bounds,
     vs: u64,
@@ -127,7 +130,7 @@ fn least_code<'a>(
     t: u64,
     spared: bool,
 ) -> u64
-    requires { ⌜ (s .to ≤ 320) × (s .stop ≤ 320) × (t ≡ aloneOf (joinedIn (table (now columns) (now low) (now high)) s)) × (spared ≡ not (asksOf 102 (joinedIn (table (now columns) (now low) (now high)) s))) ⌝ }
+    requires { ⌜ (s .to ≤ relationRoom) × (s .stop ≤ relationRoom) × (t ≡ aloneOf (joinedIn (table (now columns) (now low) (now high)) s)) × (spared ≡ not (asksOf 102 (joinedIn (table (now columns) (now low) (now high)) s))) ⌝ }
     requires { ⌜ Settled (bounded b (joinedIn (table (now columns) (now low) (now high)) s)) vs ws ⌝ }
     ensures { λ r. ⌜ r ≡ partCode maxPlaces (bounded b (joinedIn (table (now (columns .entry)) (now (low .entry)) (now (high .entry))) s)) ⌝ }
 {
@@ -147,13 +150,8 @@ fn least_code<'a>(
 }
 
 // The least f other than 0 by what is asked of f alone.
-fn least_f<'a>(
-    columns: &'a [u32; 1280],
-    low: &'a [u32; 2048],
-    high: &'a [u32; 2048],
-    s: Span,
-) -> u64
-    requires { ⌜ (s .to ≤ 320) × (s .stop ≤ 320) ⌝ }
+fn least_f<'a>(columns: &'a Columns, low: &'a RangeEnds, high: &'a RangeEnds, s: Span) -> u64
+    requires { ⌜ (s .to ≤ relationRoom) × (s .stop ≤ relationRoom) ⌝ }
     ensures { λ r. ⌜ r ≡ leastF (joinedIn (table (now (columns .entry)) (now (low .entry)) (now (high .entry))) s) ⌝ }
 {
     let q = Query {
@@ -192,16 +190,16 @@ fn code_of(v: u64, f: u64) -> u64
 // f alone, nor its v before the least with room for that. So they are a bound, and often reached: then
 // one search for t is enough.
 fn asked_code<'a>(
-    columns: &'a [u32; 1280],
-    low: &'a [u32; 2048],
-    high: &'a [u32; 2048],
+    columns: &'a Columns,
+    low: &'a RangeEnds,
+    high: &'a RangeEnds,
     s: Span,
     b: Bounds,
     vs: u64,
     ws: u64,
     t: u64,
 ) -> u64
-    requires { ⌜ (s .to ≤ 320) × (s .stop ≤ 320) × (t ≡ aloneOf (joinedIn (table (now columns) (now low) (now high)) s)) × (false ≡ not (asksOf 102 (joinedIn (table (now columns) (now low) (now high)) s))) ⌝ }
+    requires { ⌜ (s .to ≤ relationRoom) × (s .stop ≤ relationRoom) × (t ≡ aloneOf (joinedIn (table (now columns) (now low) (now high)) s)) × (false ≡ not (asksOf 102 (joinedIn (table (now columns) (now low) (now high)) s))) ⌝ }
     requires { ⌜ Settled (bounded b (joinedIn (table (now columns) (now low) (now high)) s)) vs ws ⌝ }
     ensures { λ r. ⌜ r ≡ partCode maxPlaces (bounded b (joinedIn (table (now (columns .entry)) (now (low .entry)) (now (high .entry))) s)) ⌝ }
 {
@@ -220,15 +218,15 @@ fn asked_code<'a>(
 
 // The least v and f, where f is not 0: none where no t meets what is asked of t alone.
 pub fn part_code<'a>(
-    columns: &'a [u32; 1280],
-    low: &'a [u32; 2048],
-    high: &'a [u32; 2048],
+    columns: &'a Columns,
+    low: &'a RangeEnds,
+    high: &'a RangeEnds,
     s: Span,
     b: Bounds,
     p: u64,
     floor: u64,
 ) -> u64
-    requires { ⌜ (s .to ≤ 320) × (s .stop ≤ 320) × NoneBelow alone (joinedIn (table (now columns) (now low) (now high)) s) floor ⌝ }
+    requires { ⌜ (s .to ≤ relationRoom) × (s .stop ≤ relationRoom) × NoneBelow alone (joinedIn (table (now columns) (now low) (now high)) s) floor ⌝ }
     requires { ⌜ p ≡ profileOf (bounded b (joinedIn (table (now columns) (now low) (now high)) s)) ⌝ }
     ensures { λ r. ⌜ r ≡ partCode maxPlaces (bounded b (joinedIn (table (now (columns .entry)) (now (low .entry)) (now (high .entry))) s)) ⌝ }
 {

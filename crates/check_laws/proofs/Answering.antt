@@ -5,7 +5,7 @@ use Prim.Native.Nat.{ℕ, _+_, _≤_, _<_}
 use Rattle.answer.specs.declared.Witness.{Witness}
 use Rattle.number.specs.Limits.{maxExponent}
 use Rattle.check_laws.specs.Fast.{fastRank, bothOf, fastClash}
-use Rattle.rules.specs.Stretch.{Table}
+use Rattle.pack_rules.specs.Stretch.{Table}
 use Rattle.check_laws.specs.Read.{ruleClauses}
 use Rattle.check_laws.specs.Spots.{spotRank, Proper, answered}
 use Rattle.check_laws.specs.declared.Checked.{Checked}

@@ -7,7 +7,7 @@ use native.Mathlib.Omega.{arith}
 use lib.Bits.{bitAnd, bitOr, and-step, and-zero-l, or-step, or-zero-l}
 use lib.Count.{trailingZeros, under}
 use Rattle.decimal.specs.Choice.{both, either}
-use Rattle.rules.specs.Stretch.{stretch}
+use Rattle.pack_rules.specs.Stretch.{stretch}
 use Rattle.select.specs.Select.{bit, maskOf}
 use Rattle.select.proofs.Masks.{half-of, low-of}
 use Rattle.check_laws.specs.Seek.{seek}

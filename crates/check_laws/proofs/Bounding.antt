@@ -11,7 +11,7 @@ use Rattle.decimal.specs.Choice.{both, either}
 use Rattle.decimal.specs.Lists.{all}
 use Rattle.number.specs.Limits.{maxExponent, maxDigits, maxPlaces}
 use Rattle.number.specs.declared.Number.{Number}
-use Rattle.rules.specs.Syntax.{Relation}
+use Rattle.pack_rules.specs.Syntax.{Relation}
 use Rattle.meaning.specs.Meaning.{inRange, clauseHolds}
 use Rattle.check_laws.proofs.Seeking.{and-false-left, least-one, seek-least}
 use Rattle.check_laws.specs.Bounded.{fromTo, withinPlaces, placesBetween, bounded}

@@ -13,7 +13,7 @@ use Rattle.decimal.specs.Choice.{if_then_else_, both}
 use Rattle.decimal.proofs.Choices.{not-both, both-true}
 use Rattle.answer.specs.declared.Witness.{Witness}
 use Rattle.number.specs.declared.Number.{Number}
-use Rattle.rules.specs.Syntax.{Rule}
+use Rattle.pack_rules.specs.Syntax.{Rule}
 use Rattle.meaning.specs.Meaning.{meets}
 use Rattle.check_laws.specs.Seek.{Least}
 use Rattle.check_laws.proofs.Seeking.{and-true, seek-least, split}

@@ -16,7 +16,7 @@ use Rattle.decimal.specs.Lists.{all}
 use Rattle.answer.specs.declared.Witness.{Witness}
 use Rattle.number.specs.Limits.{maxExponent, maxDigits, maxPlaces}
 use Rattle.number.specs.Admitted.{wOf, tOf}
-use Rattle.rules.specs.Syntax.{Relation}
+use Rattle.pack_rules.specs.Syntax.{Relation}
 use Rattle.meaning.specs.Meaning.{clauseHolds, conditionHolds}
 use Rattle.check_laws.specs.Seek.{Least}
 use Rattle.check_laws.proofs.Seeking.{split, and-false-left, and-false-right, and-true, or-false, least-none, least-or, least-one, seek-least}

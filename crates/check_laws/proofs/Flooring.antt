@@ -14,9 +14,9 @@ use Rattle.decimal.specs.Choice.{if_then_else_, both, either}
 use Rattle.decimal.proofs.Choices.{tested, not-both, either-false}
 use Rattle.decimal.specs.Lists.{all}
 use Rattle.number.specs.Limits.{maxExponent, maxDigits, maxPlaces}
-use Rattle.rules.specs.Syntax.{Relation}
-use Rattle.rules.specs.Stretch.{Table, relationsIn, relationAt, startAt, rangesFromAt, clauseAt}
-use Rattle.rules.proofs.Stretches.{stretch-nil}
+use Rattle.pack_rules.specs.Syntax.{Relation}
+use Rattle.pack_rules.specs.Stretch.{Table, relationsIn, relationAt, startAt, rangesFromAt, clauseAt}
+use Rattle.pack_rules.proofs.Stretches.{stretch-nil}
 use Rattle.check_laws.specs.Seek.{Least}
 use Rattle.check_laws.proofs.Seeking.{split, and-false-left, and-false-right, least-none, least-after}
 use Rattle.check_laws.specs.Check.{lowest}

@@ -15,7 +15,7 @@ use Rattle.decimal.proofs.Values.{power-pos, power-mono}
 use Rattle.decimal.specs.Lists.{all}
 use Rattle.number.specs.Limits.{maxPlaces}
 use Rattle.number.specs.Admitted.{wOf, tOf}
-use Rattle.rules.specs.Syntax.{Relation}
+use Rattle.pack_rules.specs.Syntax.{Relation}
 use Rattle.check_laws.specs.Seek.{Least, seek}
 use Rattle.check_laws.proofs.Seeking.{split, and-false-left, and-false-right, and-true, or-false, least-none, least-or, seek-least}
 use Rattle.check_laws.specs.Fast.{queryT, factor, test, passes, ends, passesAll, settledF, fractions, wholeCode, tailOf, tailPlaces, tailCode, partCode, fractionCode}

@@ -3,10 +3,10 @@ use mathlib.Core.Path.{_≡_, refl, sym, ap, ap₂, _∙_}
 use mathlib.Core.List.{List}
 use Prim.Native.Nat.{ℕ, zero, suc, _+_, _-_, min}
 use native.Mathlib.Nat.{sub-zero}
-use Rattle.rules.specs.Syntax.{Relation, Rule}
-use Rattle.rules.specs.Held.{Pack, heldRules}
-use Rattle.rules.specs.Stretch.{stretch, tableOf, ruleAt}
-use Rattle.rules.proofs.Stretches.{Sized, held-rules}
+use Rattle.pack_rules.specs.Syntax.{Relation, Rule}
+use Rattle.pack_rules.specs.Held.{Pack, heldRules}
+use Rattle.pack_rules.specs.Stretch.{stretch, tableOf, ruleAt}
+use Rattle.pack_rules.proofs.Stretches.{Sized, held-rules}
 use Rattle.check_laws.specs.Check.{named, against, firstPair, checkOf}
 use Rattle.check_laws.specs.Fast.{fastRank, bothOf, fastClash}
 use Rattle.check_laws.specs.Read.{bareRule}

@@ -5,7 +5,7 @@ use mathlib.Core.List.{List, [], _∷_, _++_}
 use Prim.Native.Nat.{ℕ, suc}
 use Rattle.decimal.specs.Choice.{both, either}
 use Rattle.number.specs.declared.Number.{Number}
-use Rattle.rules.specs.Syntax.{Relation, Rule}
+use Rattle.pack_rules.specs.Syntax.{Relation, Rule}
 use Rattle.meaning.specs.Meaning.{holds, clauseHolds, conditionHolds, meets}
 use Rattle.check_laws.proofs.Seeking.{least-one, seek-least}
 use Rattle.check_laws.specs.Check.{numberAt, ranked, admits, ranks, found, leastRank, clashOf, named, against, firstPair, checkOf}

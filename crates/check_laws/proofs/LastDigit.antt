@@ -11,7 +11,7 @@ use borrow.Author.Tests.{leb-true, le-leb, lt-leb, eqb-true, eqb-false}
 use Rattle.decimal.specs.Choice.{if_then_else_, both, either}
 use Rattle.decimal.proofs.Choices.{tested, not-both, both-true}
 use Rattle.decimal.specs.Lists.{all, any}
-use Rattle.rules.specs.Syntax.{Range, Relation}
+use Rattle.pack_rules.specs.Syntax.{Range, Relation}
 use Rattle.meaning.specs.Meaning.{inRange}
 use Rattle.select.specs.Select.{bit}
 use Rattle.check_laws.proofs.Seeking.{split, and-true, or-true-left, or-true-right, and-false-left, and-false-right}

@@ -14,7 +14,7 @@ use Rattle.decimal.proofs.Choices.{tested, not-both, both-true}
 use Rattle.decimal.proofs.Values.{power-pos, power-mono}
 use Rattle.decimal.specs.Lists.{all}
 use Rattle.number.specs.Limits.{maxPlaces}
-use Rattle.rules.specs.Syntax.{Relation}
+use Rattle.pack_rules.specs.Syntax.{Relation}
 use Rattle.check_laws.specs.Seek.{seek}
 use Rattle.check_laws.proofs.Seeking.{split, and-true, seek-least}
 use Rattle.check_laws.specs.Fast.{factor, test, passes, ends, passesAll, queryT, queryF, leastF, search, settledF, fractions, tailOf, tailPlaces, tailCode, partCode}

@@ -13,7 +13,7 @@ use borrow.Author.Tests.{eqb-true, eqb-false, eq-eqb, ne-eqb, leb-true, leb-fals
 use Rattle.decimal.specs.Choice.{if_then_else_, both}
 use Rattle.decimal.proofs.Choices.{choice, tested, not-both, both-true, both-one}
 use Rattle.decimal.specs.Lists.{all}
-use Rattle.rules.specs.Syntax.{Relation}
+use Rattle.pack_rules.specs.Syntax.{Relation}
 use Rattle.check_laws.specs.Fast.{Query, factor, asked, listed, test, passes, ends, passesAll}
 use Rattle.check_laws.specs.Levels.{levels, window, stray, levelOf, levelIn, ownOne, lastDigit, own, below, levelled}
 use Rattle.check_laws.proofs.Seeking.{split}

@@ -4,12 +4,12 @@ use mathlib.Core.List.{List, [], _∷_, _++_}
 use Prim.Native.Nat.{ℕ, _+_, _-_, _≤_, _<_, min}
 use native.Mathlib.Omega.{arith}
 use lib.ListN.{getD}
-use Rattle.rules.specs.Syntax.{Relation}
+use Rattle.pack_rules.specs.Syntax.{Relation}
 use Rattle.check_laws.specs.Check.{ranks}
 use Rattle.check_laws.specs.Fast.{clauseRank, fastRank, withEach, bothOf}
-use Rattle.rules.specs.Stretch.{Table, relationsIn, startAt, clauseAt, clausesIn}
+use Rattle.pack_rules.specs.Stretch.{Table, relationsIn, startAt, clauseAt, clausesIn}
 use Rattle.check_laws.specs.Read.{ruleClauses}
-use Rattle.rules.proofs.Stretches.{stretch-cons, stretch-nil}
+use Rattle.pack_rules.proofs.Stretches.{stretch-cons, stretch-nil}
 use Rattle.check_laws.proofs.FastIs.{fast-least}
 
 fast-append : (a b : List (List Relation)) → fastRank (a ++ b) ≡ min (fastRank a) (fastRank b)

@@ -15,7 +15,7 @@ use Rattle.decimal.proofs.Choices.{not-both, either-false, both-true}
 use Rattle.decimal.proofs.Values.{power-mono}
 use Rattle.decimal.specs.Lists.{all}
 use Rattle.number.specs.Limits.{maxExponent, maxPlaces}
-use Rattle.rules.specs.Syntax.{Relation}
+use Rattle.pack_rules.specs.Syntax.{Relation}
 use Rattle.check_laws.specs.Seek.{Least, seek}
 use Rattle.check_laws.proofs.Seeking.{split, and-true, least-one, seek-least}
 use Rattle.check_laws.specs.Fast.{factor, test, ends, passesAll, alone, aloneOf, asksOf, queryT, passes, search, settledE, settledF, exponentOf, fractions, wholeCode, tailOf, tailPlaces, tailCode, partCode, fractionCode}

@@ -16,9 +16,9 @@ use borrow.Author.Tests.{eq-eqb, ne-eqb, le-leb}
 use Rattle.decimal.specs.Choice.{if_then_else_, both, either}
 use Rattle.decimal.specs.Lists.{all}
 use Rattle.number.specs.Limits.{maxExponent, maxPlaces}
-use Rattle.rules.specs.Syntax.{Relation}
-use Rattle.rules.specs.Stretch.{stretch, startAt, Table, relationsIn, clauseAt}
-use Rattle.rules.proofs.Stretches.{stretch-same}
+use Rattle.pack_rules.specs.Syntax.{Relation}
+use Rattle.pack_rules.specs.Stretch.{stretch, startAt, Table, relationsIn, clauseAt}
+use Rattle.pack_rules.proofs.Stretches.{stretch-same}
 use Rattle.select.specs.Select.{bit, maskOf}
 use Rattle.select.proofs.Masks.{mask-fits}
 use Rattle.check_laws.specs.Seek.{seek}

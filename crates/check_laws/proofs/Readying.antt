@@ -10,7 +10,7 @@ use Rattle.decimal.specs.Choice.{if_then_else_}
 use Rattle.decimal.proofs.Choices.{tested, not-both}
 use Rattle.decimal.proofs.Values.{power-mono}
 use Rattle.number.specs.Limits.{maxDigits, maxPlaces}
-use Rattle.rules.specs.Stretch.{Table, relationAt}
+use Rattle.pack_rules.specs.Stretch.{Table, relationAt}
 use Rattle.check_laws.specs.Fast.{test, search, alone, queryF}
 use Rattle.check_laws.specs.Read.{cap, joinedIn}
 use Rattle.check_laws.specs.Ready.{Room, Fit, ready, leastIn}

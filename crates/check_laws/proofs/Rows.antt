@@ -14,7 +14,7 @@ use Rattle.answer.specs.declared.Keyword.{Keyword}
 use Rattle.answer.specs.declared.Keyword.the-variants.{One, Two, Few}
 use Rattle.answer.specs.declared.Witness.{Witness}
 use Rattle.number.specs.declared.Number.{Number}
-use Rattle.rules.specs.Syntax.{Relation, Rule}
+use Rattle.pack_rules.specs.Syntax.{Relation, Rule}
 use Rattle.meaning.specs.Meaning.{meets, holds, inRange}
 use Rattle.check_laws.proofs.Seeking.{split}
 use Rattle.check_laws.specs.Check.{numberAt, rank, ranked, ranks, leastRank, clashOf, against, firstPair, checkOf}

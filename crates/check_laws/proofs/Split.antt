@@ -12,7 +12,7 @@ use Rattle.decimal.proofs.Choices.{tested, eqb-same, both-one}
 use Rattle.decimal.proofs.Values.{power-pos}
 use Rattle.decimal.specs.Lists.{all, any}
 use Rattle.number.specs.declared.Number.{Number}
-use Rattle.rules.specs.Syntax.{Range, Relation}
+use Rattle.pack_rules.specs.Syntax.{Range, Relation}
 use Rattle.meaning.specs.Meaning.{inRange, holds, clauseHolds}
 use Rattle.check_laws.specs.Fast.{listed, test, factor, passes, queryI, queryT, ofExponent, settledE, settledV, settledW, settledF}
 

@@ -13,7 +13,7 @@ use Rattle.decimal.specs.Choice.{if_then_else_}
 use Rattle.decimal.proofs.Values.{power-pos}
 use Rattle.answer.specs.declared.Witness.{Witness}
 use Rattle.number.specs.Limits.{maxExponent, maxDigits, maxPlaces}
-use Rattle.rules.specs.Syntax.{Relation}
+use Rattle.pack_rules.specs.Syntax.{Relation}
 use Rattle.check_laws.proofs.Seeking.{split}
 use Rattle.check_laws.specs.Check.{lowest, block, ranks}
 use Rattle.check_laws.specs.Fast.{search, exponentOf, fractions, fractionCode, integerOf, placed, kindRank, clauseRank}

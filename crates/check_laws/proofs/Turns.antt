@@ -11,14 +11,14 @@ use borrow.Author.Tests.{lt-ltb, le-ltb}
 use Rattle.decimal.specs.Choice.{if_then_else_}
 use Rattle.answer.specs.declared.Witness.{Witness}
 use Rattle.number.specs.Limits.{maxExponent, maxDigits, maxPlaces}
-use Rattle.rules.specs.Syntax.{Rule}
+use Rattle.pack_rules.specs.Syntax.{Rule}
 use Rattle.check_laws.specs.Check.{block, ranks, ranked, named, against, firstPair}
-use Rattle.rules.specs.Stretch.{stretch, Table}
+use Rattle.pack_rules.specs.Stretch.{stretch, Table}
 use Rattle.check_laws.specs.Read.{bareRule}
 use Rattle.check_laws.specs.Spots.{spotRank, Proper, answered}
 use Rattle.check_laws.specs.declared.Checked.{Checked}
 use Rattle.check_laws.specs.declared.Checked.the-variants.{Passes, Clashes}
-use Rattle.rules.proofs.Stretches.{stretch-cons, stretch-nil}
+use Rattle.pack_rules.proofs.Stretches.{stretch-cons, stretch-nil}
 
 -- ---- what is found
 

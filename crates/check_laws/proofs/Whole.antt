@@ -12,7 +12,7 @@ use Rattle.decimal.specs.Choice.{if_then_else_, both}
 use Rattle.decimal.proofs.Choices.{tested, not-both, both-true}
 use Rattle.decimal.specs.Lists.{all}
 use Rattle.number.specs.Limits.{maxExponent, maxDigits, maxPlaces}
-use Rattle.rules.specs.Syntax.{Relation}
+use Rattle.pack_rules.specs.Syntax.{Relation}
 use Rattle.check_laws.specs.Seek.{seek, Least}
 use Rattle.check_laws.proofs.Seeking.{split, and-true, seek-least}
 use Rattle.check_laws.specs.Check.{lowest, block, ranks}

@@ -8,7 +8,7 @@ use Rattle.answer.specs.declared.Witness.{Witness}
 use Rattle.number.specs.Limits.{maxExponent, maxDigits, maxPlaces}
 use Rattle.number.specs.Admitted.{numberFrom}
 use Rattle.number.specs.declared.Number.{Number}
-use Rattle.rules.specs.Syntax.{Rule}
+use Rattle.pack_rules.specs.Syntax.{Rule}
 use Rattle.meaning.specs.Meaning.{meets}
 use Rattle.check_laws.specs.Seek.{seek}
 use Rattle.check_laws.specs.declared.Checked.{Checked}

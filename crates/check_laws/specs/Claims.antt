@@ -8,7 +8,7 @@ use lib.ListN.{length, getD}
 use Rattle.answer.specs.declared.Keyword.the-variants.{Other}
 use Rattle.answer.specs.declared.Witness.{Witness}
 use Rattle.number.specs.Admitted.{Admitted}
-use Rattle.rules.specs.Syntax.{Rule}
+use Rattle.pack_rules.specs.Syntax.{Rule}
 use Rattle.meaning.specs.Meaning.{meets}
 use Rattle.check_laws.specs.Check.{numberAt}
 use Rattle.check_laws.specs.declared.Checked.{Checked}

@@ -7,7 +7,7 @@ use lib.Dec.{leb, ltb, eqb}
 use Rattle.decimal.specs.Choice.{if_then_else_, both, either}
 use Rattle.decimal.specs.Lists.{all, any}
 use Rattle.number.specs.Limits.{maxExponent, maxDigits, maxPlaces}
-use Rattle.rules.specs.Syntax.{Range, Relation, Rule}
+use Rattle.pack_rules.specs.Syntax.{Range, Relation, Rule}
 use Rattle.meaning.specs.Meaning.{inRange}
 use Rattle.check_laws.specs.Seek.{seek}
 use Rattle.check_laws.specs.Check.{lowest, block, ranks, firstPair}

@@ -7,8 +7,9 @@ use lib.Dec.{eqb, ltb}
 use lib.ListN.{getD}
 use Rattle.decimal.specs.Choice.{if_then_else_}
 use Rattle.number.specs.Limits.{maxDigits}
-use Rattle.rules.specs.Syntax.{Relation}
-use Rattle.rules.specs.Stretch.{rangesFromAt, Table, clauseAt}
+use Rattle.pack_rules.specs.Room.{clauseRoom}
+use Rattle.pack_rules.specs.Syntax.{Relation}
+use Rattle.pack_rules.specs.Stretch.{rangesFromAt, Table, clauseAt}
 use Rattle.check_laws.specs.Fast.{Query, queryI, alone, passesAll}
 use Rattle.check_laws.specs.Profile.{wholeDigits, partDigits}
 use Rattle.check_laws.specs.declared.Floors.{Floors}
@@ -38,7 +39,7 @@ floorsAt whole part tail j = record { whole = getD whole j 0; part = getD part j
 
 -- the arrays hold floors of each clause that a pack has room for
 abbrev pub Floored : Table → List ℕ → List ℕ → List ℕ → List ℕ → Type 0
-Floored T relations whole part tail = (j : ℕ) → j < 40 → Under (clauseAt T relations j) (floorsAt whole part tail j)
+Floored T relations whole part tail = (j : ℕ) → j < clauseRoom → Under (clauseAt T relations j) (floorsAt whole part tail j)
 
 -- more than `least` ranges belong to the relations from place `from` to before `to`
 abbrev pub longIn : List ℕ → ℕ → ℕ → ℕ → Bool

@@ -5,7 +5,7 @@ use Prim.Native.Nat.{ℕ, zero, suc, _*_, _%_, _^_}
 use lib.Dec.{leb, eqb}
 use Rattle.decimal.specs.Choice.{if_then_else_, both}
 use Rattle.decimal.specs.Lists.{all}
-use Rattle.rules.specs.Syntax.{Relation}
+use Rattle.pack_rules.specs.Syntax.{Relation}
 use Rattle.check_laws.specs.Fast.{Query, factor, asked, listed}
 
 -- the levels 0 to 6 are those of remainders by 10 ^ 0 to 10 ^ 6

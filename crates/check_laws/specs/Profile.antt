@@ -9,8 +9,9 @@ use lib.ListN.{getD}
 use Rattle.decimal.specs.Choice.{if_then_else_, both, either}
 use Rattle.decimal.specs.Lists.{all, any}
 use Rattle.number.specs.Limits.{maxExponent, maxPlaces}
-use Rattle.rules.specs.Syntax.{Range, Relation}
-use Rattle.rules.specs.Stretch.{stretch, Table, clauseAt}
+use Rattle.pack_rules.specs.Room.{clauseRoom}
+use Rattle.pack_rules.specs.Syntax.{Range, Relation}
+use Rattle.pack_rules.specs.Stretch.{stretch, Table, clauseAt}
 use Rattle.select.specs.Select.{maskOf}
 use Rattle.check_laws.specs.Seek.{seek}
 use Rattle.check_laws.specs.Fast.{passes, asked, queryI, queryT, settledE, settledV, settledW, settledF}
@@ -105,4 +106,4 @@ Profiled T relations profiles end = (j : ℕ) → j < end → getD profiles j 0 
 
 -- and so those of the clauses of the first n rules
 abbrev pub ProfiledRules : Table → List ℕ → List ℕ → ℕ → List ℕ → Type 0
-ProfiledRules T relations clauses n profiles = (p : ℕ) → p < n → Profiled T relations profiles (min (getD clauses p 0) 40)
+ProfiledRules T relations clauses n profiles = (p : ℕ) → p < n → Profiled T relations profiles (min (getD clauses p 0) clauseRoom)

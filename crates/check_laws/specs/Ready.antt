@@ -3,7 +3,8 @@ use mathlib.Core.Bool.{Bool, true, false}
 use Prim.Native.Nat.{ℕ, _*_, _≤_}
 use lib.Dec.{leb, ltb, eqb}
 use Rattle.decimal.specs.Choice.{if_then_else_}
-use Rattle.rules.specs.Stretch.{Table}
+use Rattle.pack_rules.specs.Room.{relationRoom}
+use Rattle.pack_rules.specs.Stretch.{Table}
 use Rattle.check_laws.specs.Fast.{search}
 use Rattle.check_laws.specs.Read.{cap, joinedIn}
 use Rattle.check_laws.specs.declared.Query.{Query}
@@ -28,8 +29,8 @@ pub record Fit (q : Query) : Type 0 where
 abbrev pub ready : Span → Query → ℕ → ℕ → Bool
 ready s q lo hi =
     if ltb hi lo then false else
-    if ltb 320 (s .to) then false else
-    if ltb 320 (s .stop) then false else
+    if ltb relationRoom (s .to) then false else
+    if ltb relationRoom (s .stop) then false else
     if ltb 1 (q .n) then false else
     if ltb 1 (q .i) then false else
     if ltb 1 (q .t) then false else

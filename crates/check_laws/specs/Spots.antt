@@ -6,7 +6,7 @@ use lib.Dec.{ltb}
 use Rattle.decimal.specs.Choice.{if_then_else_}
 use Rattle.answer.specs.declared.Witness.{Witness}
 use Rattle.number.specs.Limits.{maxExponent, maxDigits, maxPlaces}
-use Rattle.rules.specs.Syntax.{Relation}
+use Rattle.pack_rules.specs.Syntax.{Relation}
 use Rattle.check_laws.specs.Check.{block, ranks}
 use Rattle.check_laws.specs.Fast.{kindRank}
 use Rattle.check_laws.specs.declared.Checked.{Checked}

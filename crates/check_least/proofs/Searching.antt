@@ -8,8 +8,8 @@ use native.Mathlib.Omega.{arith}
 use lib.ListN.{replicate, length-replicate}
 use Rattle.decimal.specs.Choice.{both}
 use Rattle.decimal.specs.Lists.{all}
-use Rattle.rules.specs.Syntax.{Relation}
-use Rattle.rules.specs.Stretch.{Table}
+use Rattle.pack_rules.specs.Syntax.{Relation}
+use Rattle.pack_rules.specs.Stretch.{Table}
 use Rattle.check_laws.specs.Seek.{Least}
 use Rattle.check_laws.proofs.Seeking.{split, least-start, least-none, least-after, and-false-left, and-false-right}
 use Rattle.check_laws.proofs.Segmented.{least-same}

@@ -5,12 +5,14 @@
 mod search;
 
 ghost use mathlib.Core.Path.{_≡_};
-ghost use Rattle.rules.specs.Stretch.{table};
+ghost use Rattle.pack_rules.specs.Stretch.{table};
 ghost use Rattle.check_laws.specs.Ready.{ready, leastIn};
 use check_laws::Query;
 use check_laws::Span;
 use check_laws::limits::FRACTION_LIMIT;
-use check_laws::limits::RELATION_ROOM;
+use pack_rules::Columns;
+use pack_rules::RELATION_ROOM;
+use pack_rules::RangeEnds;
 
 // 10^18: no value that is compared is above it
 const CAP: u64 = 1_000_000_000_000_000_000;
@@ -49,9 +51,9 @@ fn is_ready(s: Span, q: Query, lo: u64, hi: u64) -> bool
 // The least number from lo on and below hi that passes what the clause asks, or hi; hi too where the
 // search has no room.
 pub fn least_number<'a>(
-    columns: &'a [u32; 1280],
-    low: &'a [u32; 2048],
-    high: &'a [u32; 2048],
+    columns: &'a Columns,
+    low: &'a RangeEnds,
+    high: &'a RangeEnds,
     s: Span,
     q: Query,
     lo: u64,

@@ -3,7 +3,8 @@ ghost use mathlib.Core.Path.{_≡_};
 ghost use mathlib.Core.Bool.{true, false};
 ghost use Prim.Native.Nat.{ℕ, _+_, _≤_, _<_};
 ghost use lib.ListN.{getD};
-ghost use Rattle.rules.specs.Stretch.{table};
+ghost use Rattle.pack_rules.specs.Room.{relationRoom};
+ghost use Rattle.pack_rules.specs.Stretch.{table};
 ghost use Rattle.check_laws.specs.Seek.{Least};
 ghost use Rattle.check_laws.specs.Fast.{ends, passesAll};
 ghost use Rattle.check_laws.specs.Levels.{own, below, levelled, levels, window};
@@ -27,6 +28,8 @@ use check_table::Built;
 use check_table::find;
 use check_table::level;
 use check_table::level::LEVELS;
+use pack_rules::Columns;
+use pack_rules::RangeEnds;
 
 // The level of what is asked of the number itself, and that of moduli that fit no level.
 const WINDOW: usize = 7;
@@ -37,15 +40,15 @@ const STRAY: usize = 8;
 // most 16 relations, whose moduli are powers of ten, with 16 ranges each, and a segment of the table ends
 // where a range ends or begins or where its level ends.
 fn try_each<'a>(
-    columns: &'a [u32; 1280],
-    low: &'a [u32; 2048],
-    high: &'a [u32; 2048],
+    columns: &'a Columns,
+    low: &'a RangeEnds,
+    high: &'a RangeEnds,
     s: Span,
     q: Query,
     lo: u64,
     hi: u64,
 ) -> u64
-    requires { ⌜ Room q hi × (lo ≤ hi) × (s .to ≤ 320) × (s .stop ≤ 320) ⌝ }
+    requires { ⌜ Room q hi × (lo ≤ hi) × (s .to ≤ relationRoom) × (s .stop ≤ relationRoom) ⌝ }
     ensures { λ r. ⌜ Least (passesAll q (joinedIn (table (now (columns .entry)) (now (low .entry)) (now (high .entry))) s)) lo hi r ⌝ }
 {
     let mut x = lo;
@@ -60,16 +63,16 @@ fn try_each<'a>(
 
 // The least number that the relations of the number itself allow.
 fn in_window<'a>(
-    columns: &'a [u32; 1280],
-    low: &'a [u32; 2048],
-    high: &'a [u32; 2048],
+    columns: &'a Columns,
+    low: &'a RangeEnds,
+    high: &'a RangeEnds,
     s: Span,
     q: Query,
     tiers: &[usize; KEPT],
     lo: u64,
     hi: u64,
 ) -> u64
-    requires { ⌜ Fit q × Room q hi × (lo ≤ hi) × (s .to ≤ 320) × (s .stop ≤ 320) × (sizeOf s ≤ keptRoom) × Told (table (now columns) (now low) (now high)) s q (now tiers) ⌝ }
+    requires { ⌜ Fit q × Room q hi × (lo ≤ hi) × (s .to ≤ relationRoom) × (s .stop ≤ relationRoom) × (sizeOf s ≤ keptRoom) × Told (table (now columns) (now low) (now high)) s q (now tiers) ⌝ }
     ensures { λ r. ⌜ Least (own q (joinedIn (table (now (columns .entry)) (now (low .entry)) (now (high .entry))) s) window) lo hi r ⌝ }
 {
     let mut list: [usize; KEPT] = [0; KEPT];
@@ -101,9 +104,9 @@ fn in_window<'a>(
 
 // The least of them that passes the levels of the table.
 fn by_table<'a>(
-    columns: &'a [u32; 1280],
-    low: &'a [u32; 2048],
-    high: &'a [u32; 2048],
+    columns: &'a Columns,
+    low: &'a RangeEnds,
+    high: &'a RangeEnds,
     s: Span,
     q: Query,
     tiers: &[usize; KEPT],
@@ -113,7 +116,7 @@ fn by_table<'a>(
     lo: u64,
     hi: u64,
 ) -> u64
-    requires { ⌜ Fit q × Room q hi × (lo ≤ hi) × (s .to ≤ 320) × (s .stop ≤ 320) × (sizeOf s ≤ keptRoom) × Told (table (now columns) (now low) (now high)) s q (now tiers) ⌝ }
+    requires { ⌜ Fit q × Room q hi × (lo ≤ hi) × (s .to ≤ relationRoom) × (s .stop ≤ relationRoom) × (sizeOf s ≤ keptRoom) × Told (table (now columns) (now low) (now high)) s q (now tiers) ⌝ }
     requires { ⌜ levelled q (joinedIn (table (now columns) (now low) (now high)) s) ≡ true ⌝ }
     requires { ⌜ Laid (now starts) (now ends) (now at) levels ⌝ }
     requires { ⌜ Tabled (below q (joinedIn (table (now columns) (now low) (now high)) s)) (now starts) (now ends) (now at) levels ⌝ }
@@ -146,9 +149,9 @@ fn by_table<'a>(
 
 // Makes the table and searches by it.
 fn in_table<'a>(
-    columns: &'a [u32; 1280],
-    low: &'a [u32; 2048],
-    high: &'a [u32; 2048],
+    columns: &'a Columns,
+    low: &'a RangeEnds,
+    high: &'a RangeEnds,
     s: Span,
     q: Query,
     tiers: &[usize; KEPT],
@@ -156,7 +159,7 @@ fn in_table<'a>(
     lo: u64,
     hi: u64,
 ) -> u64
-    requires { ⌜ Fit q × Room q hi × (lo ≤ hi) × (s .to ≤ 320) × (s .stop ≤ 320) × (sizeOf s ≤ keptRoom) × Told (table (now columns) (now low) (now high)) s q (now tiers) ⌝ }
+    requires { ⌜ Fit q × Room q hi × (lo ≤ hi) × (s .to ≤ relationRoom) × (s .stop ≤ relationRoom) × (sizeOf s ≤ keptRoom) × Told (table (now columns) (now low) (now high)) s q (now tiers) ⌝ }
     requires { ⌜ levelled q (joinedIn (table (now columns) (now low) (now high)) s) ≡ true ⌝ }
     requires { ⌜ ((j : ℕ) → j < 9 → getD (now asked) j false ≡ false → (x : ℕ) → own q (joinedIn (table (now columns) (now low) (now high)) s) j x ≡ true) ⌝ }
     ensures { λ r. ⌜ Least (passesAll q (joinedIn (table (now (columns .entry)) (now (low .entry)) (now (high .entry))) s)) lo hi r ⌝ }
@@ -200,9 +203,9 @@ fn asks_remainder(asked: &[bool; 9]) -> bool
 // The least number by the levels that the clause asks. What is asked of the number itself comes first:
 // where it leaves no number, or its least one passes, there is no table.
 fn by_window<'a>(
-    columns: &'a [u32; 1280],
-    low: &'a [u32; 2048],
-    high: &'a [u32; 2048],
+    columns: &'a Columns,
+    low: &'a RangeEnds,
+    high: &'a RangeEnds,
     s: Span,
     q: Query,
     tiers: &[usize; KEPT],
@@ -210,7 +213,7 @@ fn by_window<'a>(
     lo: u64,
     hi: u64,
 ) -> u64
-    requires { ⌜ Fit q × Room q hi × (lo ≤ hi) × (s .to ≤ 320) × (s .stop ≤ 320) × (sizeOf s ≤ keptRoom) × Told (table (now columns) (now low) (now high)) s q (now tiers) ⌝ }
+    requires { ⌜ Fit q × Room q hi × (lo ≤ hi) × (s .to ≤ relationRoom) × (s .stop ≤ relationRoom) × (sizeOf s ≤ keptRoom) × Told (table (now columns) (now low) (now high)) s q (now tiers) ⌝ }
     requires { ⌜ levelled q (joinedIn (table (now columns) (now low) (now high)) s) ≡ true ⌝ }
     requires { ⌜ ((j : ℕ) → j < 9 → getD (now asked) j false ≡ false → (x : ℕ) → own q (joinedIn (table (now columns) (now low) (now high)) s) j x ≡ true) ⌝ }
     ensures { λ r. ⌜ Least (passesAll q (joinedIn (table (now (columns .entry)) (now (low .entry)) (now (high .entry))) s)) lo hi r ⌝ }
@@ -232,15 +235,15 @@ fn by_window<'a>(
 
 // The same, or where the levels do not serve by trying each.
 fn by_levels<'a>(
-    columns: &'a [u32; 1280],
-    low: &'a [u32; 2048],
-    high: &'a [u32; 2048],
+    columns: &'a Columns,
+    low: &'a RangeEnds,
+    high: &'a RangeEnds,
     s: Span,
     q: Query,
     lo: u64,
     hi: u64,
 ) -> u64
-    requires { ⌜ Fit q × Room q hi × (lo ≤ hi) × (s .to ≤ 320) × (s .stop ≤ 320) ⌝ }
+    requires { ⌜ Fit q × Room q hi × (lo ≤ hi) × (s .to ≤ relationRoom) × (s .stop ≤ relationRoom) ⌝ }
     ensures { λ r. ⌜ Least (passesAll q (joinedIn (table (now (columns .entry)) (now (low .entry)) (now (high .entry))) s)) lo hi r ⌝ }
 {
     if KEPT < size_of(s) {
@@ -269,15 +272,15 @@ fn first(q: Query, lo: u64) -> u64
 // The least number from lo on and below hi that passes what the clause asks, or hi. The first number is
 // tried before the levels are looked at: a search that asks little ends there.
 pub fn least<'a>(
-    columns: &'a [u32; 1280],
-    low: &'a [u32; 2048],
-    high: &'a [u32; 2048],
+    columns: &'a Columns,
+    low: &'a RangeEnds,
+    high: &'a RangeEnds,
     s: Span,
     q: Query,
     lo: u64,
     hi: u64,
 ) -> u64
-    requires { ⌜ Fit q × Room q hi × (lo ≤ hi) × (s .to ≤ 320) × (s .stop ≤ 320) ⌝ }
+    requires { ⌜ Fit q × Room q hi × (lo ≤ hi) × (s .to ≤ relationRoom) × (s .stop ≤ relationRoom) ⌝ }
     ensures { λ r. ⌜ Least (passesAll q (joinedIn (table (now (columns .entry)) (now (low .entry)) (now (high .entry))) s)) lo hi r ⌝ }
 {
     let x = first(q, lo);

@@ -8,8 +8,8 @@ use lib.Dec.{leb, ltb}
 use lib.ListN.{getD}
 use borrow.Author.Tests.{le-leb, lt-leb, leb-true, lt-ltb, le-ltb}
 use Rattle.decimal.proofs.Choices.{choice}
-use Rattle.rules.specs.Stretch.{stretch}
-use Rattle.rules.proofs.Stretches.{stretch-cons, stretch-nil}
+use Rattle.pack_rules.specs.Stretch.{stretch}
+use Rattle.pack_rules.proofs.Stretches.{stretch-cons, stretch-nil}
 use Rattle.check_laws.specs.Segments.{Segment, segment, first, upTo, wrap, climb}
 use Rattle.check_next.specs.Table.{segmentAt, segmentsIn, Small, climbIn}
 

@@ -7,7 +7,7 @@ use Prim.Native.Nat.{ℕ, suc, _-_, _^_, _≤_, _<_}
 use lib.Dec.{leb}
 use lib.ListN.{length, getD}
 use Rattle.decimal.specs.Choice.{if_then_else_}
-use Rattle.rules.specs.Stretch.{stretch}
+use Rattle.pack_rules.specs.Stretch.{stretch}
 use Rattle.check_laws.specs.Segments.{Segment, segment, climb, Level}
 
 -- how many segments there is room for

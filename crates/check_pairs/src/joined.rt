@@ -7,10 +7,12 @@ ghost use lib.ListN.{getD};
 ghost use Rattle.check_laws.specs.Floors.{Floored};
 ghost use Rattle.check_laws.specs.Fast.{clauseRank, fastRank, withEach, bothOf};
 ghost use Rattle.check_laws.specs.Profile.{profileOf, Profiled};
-ghost use Rattle.rules.specs.Stretch.{table, clauseAt, clausesIn};
+ghost use Rattle.pack_rules.specs.Room.{clauseRoom, ruleRoom};
+ghost use Rattle.pack_rules.specs.Stretch.{table, clauseAt, clausesIn};
 ghost use Rattle.check_laws.specs.Read.{ruleClauses};
 ghost use Rattle.check_laws.specs.Spots.{spotRank, Proper};
 use answer::Witness;
+use check_clauses::PerClause;
 use check_clauses::ends::clauses_start;
 use check_clauses::ends::clauses_stop;
 use check_clauses::ends::relations_start;
@@ -21,21 +23,25 @@ use check_laws::Span;
 use check_laws::limits;
 use check_places::order;
 use decimal::Places;
+use pack_rules::ClauseEnds;
+use pack_rules::Columns;
+use pack_rules::RangeEnds;
+use pack_rules::RuleEnds;
 
 // The least number of the clauses k and l joined, with any v.
 fn joined_spot<'a>(
-    columns: &'a [u32; 1280],
-    low: &'a [u32; 2048],
-    high: &'a [u32; 2048],
-    relations: &'a [usize; 40],
-    whole: &'a [u64; 40],
-    part: &'a [u64; 40],
-    tail: &'a [u64; 40],
-    profiles: &'a [u64; 40],
+    columns: &'a Columns,
+    low: &'a RangeEnds,
+    high: &'a RangeEnds,
+    relations: &'a ClauseEnds,
+    whole: &'a PerClause,
+    part: &'a PerClause,
+    tail: &'a PerClause,
+    profiles: &'a PerClause,
     k: usize,
     l: usize,
 ) -> Witness
-    requires { ⌜ (k < 40) × (l < 40) × Floored (table (now columns) (now low) (now high)) (now relations) (now whole) (now part) (now tail) ⌝ }
+    requires { ⌜ (k < clauseRoom) × (l < clauseRoom) × Floored (table (now columns) (now low) (now high)) (now relations) (now whole) (now part) (now tail) ⌝ }
     requires { ⌜ (getD (now profiles) k 0 ≡ profileOf (clauseAt (table (now columns) (now low) (now high)) (now relations) k)) × (getD (now profiles) l 0 ≡ profileOf (clauseAt (table (now columns) (now low) (now high)) (now relations) l)) ⌝ }
     ensures { λ r. ⌜ (spotRank r ≡ clauseRank (clauseAt (table (now (columns .entry)) (now (low .entry)) (now (high .entry))) (now (relations .entry)) k ++ clauseAt (table (now (columns .entry)) (now (low .entry)) (now (high .entry))) (now (relations .entry)) l)) × Proper r ⌝ }
 {
@@ -60,20 +66,20 @@ fn joined_spot<'a>(
 
 // The earliest of `best` and the least numbers of the clause k with each of those from place `from` to before `to`.
 fn with_each<'a>(
-    columns: &'a [u32; 1280],
-    low: &'a [u32; 2048],
-    high: &'a [u32; 2048],
-    relations: &'a [usize; 40],
-    whole: &'a [u64; 40],
-    part: &'a [u64; 40],
-    tail: &'a [u64; 40],
-    profiles: &'a [u64; 40],
+    columns: &'a Columns,
+    low: &'a RangeEnds,
+    high: &'a RangeEnds,
+    relations: &'a ClauseEnds,
+    whole: &'a PerClause,
+    part: &'a PerClause,
+    tail: &'a PerClause,
+    profiles: &'a PerClause,
     k: usize,
     from: usize,
     to: usize,
     first: Witness,
 ) -> Witness
-    requires { ⌜ (k < 40) × (to ≤ 40) × Proper first × Floored (table (now columns) (now low) (now high)) (now relations) (now whole) (now part) (now tail) ⌝ }
+    requires { ⌜ (k < clauseRoom) × (to ≤ clauseRoom) × Proper first × Floored (table (now columns) (now low) (now high)) (now relations) (now whole) (now part) (now tail) ⌝ }
     requires { ⌜ (getD (now profiles) k 0 ≡ profileOf (clauseAt (table (now columns) (now low) (now high)) (now relations) k)) × Profiled (table (now columns) (now low) (now high)) (now relations) (now profiles) to ⌝ }
     ensures { λ r. ⌜ (spotRank r ≡ min (spotRank first) (fastRank (withEach (clauseAt (table (now (columns .entry)) (now (low .entry)) (now (high .entry))) (now (relations .entry)) k) (clausesIn (table (now (columns .entry)) (now (low .entry)) (now (high .entry))) (now (relations .entry)) from to)))) × Proper r ⌝ }
 {
@@ -100,20 +106,20 @@ fn with_each<'a>(
 
 // The least number of the clauses from place `from` to before `to` with those from `start` to before `stop`.
 fn both_spot<'a>(
-    columns: &'a [u32; 1280],
-    low: &'a [u32; 2048],
-    high: &'a [u32; 2048],
-    relations: &'a [usize; 40],
-    whole: &'a [u64; 40],
-    part: &'a [u64; 40],
-    tail: &'a [u64; 40],
-    profiles: &'a [u64; 40],
+    columns: &'a Columns,
+    low: &'a RangeEnds,
+    high: &'a RangeEnds,
+    relations: &'a ClauseEnds,
+    whole: &'a PerClause,
+    part: &'a PerClause,
+    tail: &'a PerClause,
+    profiles: &'a PerClause,
     from: usize,
     to: usize,
     start: usize,
     stop: usize,
 ) -> Witness
-    requires { ⌜ (to ≤ 40) × (stop ≤ 40) × Floored (table (now columns) (now low) (now high)) (now relations) (now whole) (now part) (now tail) ⌝ }
+    requires { ⌜ (to ≤ clauseRoom) × (stop ≤ clauseRoom) × Floored (table (now columns) (now low) (now high)) (now relations) (now whole) (now part) (now tail) ⌝ }
     requires { ⌜ Profiled (table (now columns) (now low) (now high)) (now relations) (now profiles) to × Profiled (table (now columns) (now low) (now high)) (now relations) (now profiles) stop ⌝ }
     ensures { λ r. ⌜ (spotRank r ≡ fastRank (bothOf (clausesIn (table (now (columns .entry)) (now (low .entry)) (now (high .entry))) (now (relations .entry)) from to) (clausesIn (table (now (columns .entry)) (now (low .entry)) (now (high .entry))) (now (relations .entry)) start stop))) × Proper r ⌝ }
 {
@@ -141,20 +147,20 @@ fn both_spot<'a>(
 
 // The least number that meets the rules p and q.
 pub fn pair_spot<'a>(
-    columns: &'a [u32; 1280],
-    low: &'a [u32; 2048],
-    high: &'a [u32; 2048],
-    relations: &'a [usize; 40],
-    clauses: &'a [usize; 6],
-    whole: &'a [u64; 40],
-    part: &'a [u64; 40],
-    tail: &'a [u64; 40],
-    profiles: &'a [u64; 40],
+    columns: &'a Columns,
+    low: &'a RangeEnds,
+    high: &'a RangeEnds,
+    relations: &'a ClauseEnds,
+    clauses: &'a RuleEnds,
+    whole: &'a PerClause,
+    part: &'a PerClause,
+    tail: &'a PerClause,
+    profiles: &'a PerClause,
     p: usize,
     q: usize,
 ) -> Witness
-    requires { ⌜ (p < 6) × (q < 6) × Floored (table (now columns) (now low) (now high)) (now relations) (now whole) (now part) (now tail) ⌝ }
-    requires { ⌜ Profiled (table (now columns) (now low) (now high)) (now relations) (now profiles) (min (getD (now clauses) p 0) 40) × Profiled (table (now columns) (now low) (now high)) (now relations) (now profiles) (min (getD (now clauses) q 0) 40) ⌝ }
+    requires { ⌜ (p < ruleRoom) × (q < ruleRoom) × Floored (table (now columns) (now low) (now high)) (now relations) (now whole) (now part) (now tail) ⌝ }
+    requires { ⌜ Profiled (table (now columns) (now low) (now high)) (now relations) (now profiles) (min (getD (now clauses) p 0) clauseRoom) × Profiled (table (now columns) (now low) (now high)) (now relations) (now profiles) (min (getD (now clauses) q 0) clauseRoom) ⌝ }
     ensures { λ r. ⌜ (spotRank r ≡ fastRank (bothOf (ruleClauses (table (now (columns .entry)) (now (low .entry)) (now (high .entry))) (now (relations .entry)) (now (clauses .entry)) p) (ruleClauses (table (now (columns .entry)) (now (low .entry)) (now (high .entry))) (now (relations .entry)) (now (clauses .entry)) q))) × Proper r ⌝ }
 {
     let from = clauses_start(clauses, p);

@@ -1,6 +1,6 @@
 // A search that starts no lower than a floor: no number below it passes; and floors by a profile.
 ghost use mathlib.Core.Path.{_≡_};
-ghost use Rattle.rules.specs.Stretch.{table};
+ghost use Rattle.pack_rules.specs.Stretch.{table};
 ghost use Prim.Native.Nat.{_^_};
 ghost use lib.Dec.{eqb};
 ghost use Rattle.decimal.specs.Choice.{if_then_else_};
@@ -13,13 +13,15 @@ use check_laws::Query;
 use check_laws::Span;
 use check_laws::limits;
 use decimal::num::greater;
+use pack_rules::Columns;
+use pack_rules::RangeEnds;
 
 // The least number from lo on and below hi that passes, or hi. Where the floor is not below hi there is
 // no search.
 pub fn least_from<'a>(
-    columns: &'a [u32; 1280],
-    low: &'a [u32; 2048],
-    high: &'a [u32; 2048],
+    columns: &'a Columns,
+    low: &'a RangeEnds,
+    high: &'a RangeEnds,
     s: Span,
     q: Query,
     lo: u64,

@@ -7,7 +7,7 @@ ghost use lib.Dec.{ltb};
 ghost use Rattle.decimal.specs.Choice.{both};
 ghost use Rattle.decimal.specs.Lists.{all};
 ghost use Rattle.number.specs.Limits.{maxPlaces};
-ghost use Rattle.rules.specs.Syntax.{Relation};
+ghost use Rattle.pack_rules.specs.Syntax.{Relation};
 ghost use Rattle.check_laws.specs.Seek.{seek};
 ghost use Rattle.check_laws.specs.Fast.{settledF, wholeCode, partCode, tailPlaces, fractions};
 ghost use Rattle.check_laws.specs.Profile.{profileOf, marked, Settled, leastRoom};

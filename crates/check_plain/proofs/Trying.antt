@@ -13,7 +13,7 @@ use Rattle.answer.specs.declared.Witness.{Witness}
 use Rattle.number.specs.Limits.{maxExponent, maxDigits, maxPlaces}
 use Rattle.number.specs.Admitted.{numberFrom}
 use Rattle.number.specs.declared.Number.{Number}
-use Rattle.rules.specs.Stretch.{Table}
+use Rattle.pack_rules.specs.Stretch.{Table}
 use Rattle.meaning.specs.Places.{metAt}
 use Rattle.check_laws.specs.Seek.{Least}
 use Rattle.check_laws.proofs.Seeking.{split, seek-least, least-one, least-none, least-after, least-widen, least-start, and-true, and-false-left, and-false-right}

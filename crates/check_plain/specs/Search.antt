@@ -7,7 +7,7 @@ use Rattle.decimal.specs.Choice.{both}
 use Rattle.answer.specs.declared.Witness.{Witness}
 use Rattle.number.specs.Limits.{maxExponent, maxDigits, maxPlaces}
 use Rattle.number.specs.declared.Number.{Number}
-use Rattle.rules.specs.Stretch.{Table}
+use Rattle.pack_rules.specs.Stretch.{Table}
 use Rattle.meaning.specs.Places.{metAt}
 use Rattle.check_laws.specs.Seek.{Least}
 use Rattle.check_laws.specs.Check.{block, found}

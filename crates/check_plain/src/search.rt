@@ -2,7 +2,7 @@
 ghost use mathlib.Core.Path.{_≡_};
 ghost use Prim.Native.Nat.{_+_, _^_, _≤_, _<_};
 ghost use Rattle.number.specs.Limits.{maxExponent, maxDigits, maxPlaces};
-ghost use Rattle.rules.specs.Stretch.{table};
+ghost use Rattle.pack_rules.specs.Stretch.{table};
 ghost use Rattle.check_laws.specs.Check.{lowest, clashOf};
 ghost use Rattle.check_laws.specs.Read.{bareRule};
 ghost use Rattle.check_laws.specs.Spots.{spotRank, Proper};
@@ -15,6 +15,10 @@ use check_laws::limits::NO_EXPONENT;
 use decimal::DigitValue;
 use decimal::Places;
 use number::Number;
+use pack_rules::ClauseEnds;
+use pack_rules::Columns;
+use pack_rules::RangeEnds;
+use pack_rules::RuleEnds;
 
 // No number: its e is past the largest.
 pub fn nowhere() -> Witness
@@ -30,11 +34,11 @@ pub fn nowhere() -> Witness
 
 // Whether the number meets both rules.
 fn meets_both<'a>(
-    columns: &'a [u32; 1280],
-    low: &'a [u32; 2048],
-    high: &'a [u32; 2048],
-    relations: &'a [usize; 40],
-    clauses: &'a [usize; 6],
+    columns: &'a Columns,
+    low: &'a RangeEnds,
+    high: &'a RangeEnds,
+    relations: &'a ClauseEnds,
+    clauses: &'a RuleEnds,
     first: usize,
     second: usize,
     x: Number,
@@ -49,11 +53,11 @@ fn meets_both<'a>(
 
 // Every f below 10^v.
 fn try_fractions<'a>(
-    columns: &'a [u32; 1280],
-    low: &'a [u32; 2048],
-    high: &'a [u32; 2048],
-    relations: &'a [usize; 40],
-    clauses: &'a [usize; 6],
+    columns: &'a Columns,
+    low: &'a RangeEnds,
+    high: &'a RangeEnds,
+    relations: &'a ClauseEnds,
+    clauses: &'a RuleEnds,
     p: usize,
     q: usize,
     e: u8,
@@ -82,11 +86,11 @@ fn try_fractions<'a>(
 
 // Every i from the least that e allows to below 10^15.
 fn try_integers<'a>(
-    columns: &'a [u32; 1280],
-    low: &'a [u32; 2048],
-    high: &'a [u32; 2048],
-    relations: &'a [usize; 40],
-    clauses: &'a [usize; 6],
+    columns: &'a Columns,
+    low: &'a RangeEnds,
+    high: &'a RangeEnds,
+    relations: &'a ClauseEnds,
+    clauses: &'a RuleEnds,
     p: usize,
     q: usize,
     e: u8,
@@ -108,11 +112,11 @@ fn try_integers<'a>(
 
 // Every v.
 fn try_places<'a>(
-    columns: &'a [u32; 1280],
-    low: &'a [u32; 2048],
-    high: &'a [u32; 2048],
-    relations: &'a [usize; 40],
-    clauses: &'a [usize; 6],
+    columns: &'a Columns,
+    low: &'a RangeEnds,
+    high: &'a RangeEnds,
+    relations: &'a ClauseEnds,
+    clauses: &'a RuleEnds,
     p: usize,
     q: usize,
     e: u8,
@@ -133,11 +137,11 @@ fn try_places<'a>(
 
 // Every e: the least number that meets the rules p and q.
 pub fn try_all<'a>(
-    columns: &'a [u32; 1280],
-    low: &'a [u32; 2048],
-    high: &'a [u32; 2048],
-    relations: &'a [usize; 40],
-    clauses: &'a [usize; 6],
+    columns: &'a Columns,
+    low: &'a RangeEnds,
+    high: &'a RangeEnds,
+    relations: &'a ClauseEnds,
+    clauses: &'a RuleEnds,
     p: usize,
     q: usize,
 ) -> Witness

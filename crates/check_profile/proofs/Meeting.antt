@@ -5,9 +5,9 @@ use mathlib.Core.Logic.{_⊎_, inl, inr}
 use Prim.Native.Nat.{ℕ, _+_, _-_, _≤_, _<_}
 use native.Mathlib.Omega.{arith}
 use lib.Bits.{bitAnd}
-use Rattle.rules.specs.Syntax.{Relation}
-use Rattle.rules.specs.Stretch.{Table, stretch, relationAt, relationsIn}
-use Rattle.rules.proofs.Stretches.{stretch-nil, stretch-snoc}
+use Rattle.pack_rules.specs.Syntax.{Relation}
+use Rattle.pack_rules.specs.Stretch.{Table, stretch, relationAt, relationsIn}
+use Rattle.pack_rules.proofs.Stretches.{stretch-nil, stretch-snoc}
 use Rattle.check_laws.specs.Profile.{packed, profileOf}
 use Rattle.check_laws.proofs.Profiles.{nothing, profile-join}
 

@@ -11,8 +11,9 @@ ghost use mathlib.Core.Bool.{not};
 ghost use mathlib.Core.List.{List, [], _∷_};
 ghost use Prim.Native.Nat.{_/_, _%_, _≤_, _<_};
 ghost use Rattle.decimal.specs.Lists.{all};
-ghost use Rattle.rules.specs.Syntax.{Relation};
-ghost use Rattle.rules.specs.Stretch.{relationBy, table, relationsIn};
+ghost use Rattle.pack_rules.specs.Room.{rangeRoom, relationRoom};
+ghost use Rattle.pack_rules.specs.Syntax.{Relation};
+ghost use Rattle.pack_rules.specs.Stretch.{relationBy, table, relationsIn};
 ghost use Rattle.check_laws.specs.Bounded.{bounded};
 ghost use Rattle.check_laws.specs.Fast.{asksOf, exponentOf, passes, queryT};
 ghost use Rattle.check_laws.specs.Profile.{packed, profileOf, wholeDigits, partDigits};
@@ -20,8 +21,10 @@ use check_digits::digits;
 use check_digits::values;
 use check_laws::Bounds;
 use check_laws::limits;
-use rules::Single;
-use rules::single_at;
+use pack_rules::Columns;
+use pack_rules::RangeEnds;
+use pack_rules::Single;
+use pack_rules::single_at;
 
 // Every e, and every v or w.
 const EACH_E: u64 = 32_767;
@@ -79,8 +82,8 @@ fn any_digit(e: u64, v: u64, w: u64, flags: u64) -> u64
 }
 
 // The profile of a relation, by its letter.
-fn relation_profile<'a>(low: &'a [u32; 2048], high: &'a [u32; 2048], s: Single) -> u64
-    requires { ⌜ s .to ≤ 2048 ⌝ }
+fn relation_profile<'a>(low: &'a RangeEnds, high: &'a RangeEnds, s: Single) -> u64
+    requires { ⌜ s .to ≤ rangeRoom ⌝ }
     ensures { λ r. ⌜ r ≡ profileOf (relationBy (now (low .entry)) (now (high .entry)) s ∷ []) ⌝ }
 {
     let o = s.operand;
@@ -117,13 +120,13 @@ fn relation_profile<'a>(low: &'a [u32; 2048], high: &'a [u32; 2048], s: Single) 
 
 // The profile of the relations from place `from` to before `to`.
 pub fn clause_profile<'a>(
-    columns: &'a [u32; 1280],
-    low: &'a [u32; 2048],
-    high: &'a [u32; 2048],
+    columns: &'a Columns,
+    low: &'a RangeEnds,
+    high: &'a RangeEnds,
     from: usize,
     to: usize,
 ) -> u64
-    requires { ⌜ to ≤ 320 ⌝ }
+    requires { ⌜ to ≤ relationRoom ⌝ }
     ensures { λ r. ⌜ r ≡ profileOf (relationsIn (table (now (columns .entry)) (now (low .entry)) (now (high .entry))) from to) ⌝ }
 {
     let mut p = any_digit(EACH_E, EACH_PLACE, EACH_PLACE, NEITHER_ASKED);

@@ -11,7 +11,7 @@ use borrow.Author.Tests.{eq-eqb, ne-eqb, le-leb, lt-leb, eqb-true}
 use Rattle.decimal.specs.Choice.{if_then_else_, both}
 use Rattle.decimal.proofs.Choices.{tested, choice, both-true}
 use Rattle.decimal.specs.Lists.{any}
-use Rattle.rules.specs.Syntax.{Range, Relation}
+use Rattle.pack_rules.specs.Syntax.{Range, Relation}
 use Rattle.meaning.specs.Meaning.{inRange}
 use Rattle.check_laws.specs.Seek.{Alike}
 use Rattle.check_laws.proofs.Seeking.{split}

@@ -11,9 +11,9 @@ use borrow.Author.Tests.{lt-ltb, le-ltb, ltb-true, ltb-false, leb-true, leb-fals
 use Rattle.decimal.specs.Choice.{both, either}
 use Rattle.decimal.proofs.Choices.{tested, both-true}
 use Rattle.decimal.specs.Lists.{all, any}
-use Rattle.rules.specs.Syntax.{Range}
-use Rattle.rules.specs.Stretch.{stretch, rangeAt, rangesIn}
-use Rattle.rules.proofs.Stretches.{stretch-snoc}
+use Rattle.pack_rules.specs.Syntax.{Range}
+use Rattle.pack_rules.specs.Stretch.{stretch, rangeAt, rangesIn}
+use Rattle.pack_rules.proofs.Stretches.{stretch-snoc}
 use Rattle.meaning.specs.Meaning.{inRange}
 use Rattle.check_laws.specs.Seek.{Alike}
 use Rattle.check_laws.proofs.Seeking.{and-true, and-false-left, and-false-right, or-false, or-true-left, or-true-right}

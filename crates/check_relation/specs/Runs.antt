@@ -2,7 +2,7 @@
 use Prim.Native.Nat.{ℕ, _+_, _-_, _/_, min}
 use lib.Dec.{ltb, eqb}
 use Rattle.decimal.specs.Choice.{if_then_else_}
-use Rattle.rules.specs.Syntax.{Relation}
+use Rattle.pack_rules.specs.Syntax.{Relation}
 use Rattle.check_laws.specs.Fast.{asked}
 use Rattle.check_laws.specs.Levels.{levelIn}
 use Rattle.check_laws.specs.declared.Query.{Query}

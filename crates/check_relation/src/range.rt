@@ -3,13 +3,15 @@ ghost use mathlib.Core.Path.{_≡_};
 ghost use Prim.Native.Nat.{ℕ, _+_, _≤_, _<_, min, max};
 ghost use Rattle.decimal.specs.Lists.{any};
 ghost use Rattle.meaning.specs.Meaning.{inRange};
-ghost use Rattle.rules.specs.Stretch.{rangesIn};
+ghost use Rattle.pack_rules.specs.Room.{rangeRoom};
+ghost use Rattle.pack_rules.specs.Stretch.{rangesIn};
 ghost use Rattle.check_laws.specs.Seek.{Alike};
 ghost use Rattle.check_laws.specs.Read.{cap};
 ghost use Rattle.check_relation.specs.Runs.{far, nextWith};
 use crate::FAR;
 use crate::Run;
 use decimal::num::lesser;
+use pack_rules::RangeEnds;
 
 // Whether y is in the range a..b.
 fn is_in(a: u32, b: u32, y: u64) -> bool
@@ -40,14 +42,8 @@ fn next_with(next: u64, a: u32, y: u64) -> u64
 
 // Whether y is in one of the ranges from place `from` to before `to`, and up to where it is so: past the
 // first that holds it, or up to where the next one begins.
-pub fn range_run<'a>(
-    low: &'a [u32; 2048],
-    high: &'a [u32; 2048],
-    from: usize,
-    to: usize,
-    y: u64,
-) -> Run
-    requires { ⌜ (to ≤ 2048) × (y ≤ cap) ⌝ }
+pub fn range_run<'a>(low: &'a RangeEnds, high: &'a RangeEnds, from: usize, to: usize, y: u64) -> Run
+    requires { ⌜ (to ≤ rangeRoom) × (y ≤ cap) ⌝ }
     ensures { λ r. ⌜ Alike (λ (z : ℕ). any (inRange z) (rangesIn (now (low .entry)) (now (high .entry)) from to)) y (r .says) (r .stop) ⌝ }
     ensures { λ r. ⌜ r .stop ≤ far ⌝ }
 {

@@ -4,7 +4,8 @@ ghost use mathlib.Core.Path.{_≡_};
 ghost use mathlib.Core.Bool.{not};
 ghost use Prim.Native.Nat.{_+_, _-_, _*_, _/_, _%_, _≤_, _<_};
 ghost use Rattle.decimal.specs.Choice.{if_then_else_};
-ghost use Rattle.rules.specs.Stretch.{relationBy};
+ghost use Rattle.pack_rules.specs.Room.{rangeRoom};
+ghost use Rattle.pack_rules.specs.Stretch.{relationBy};
 ghost use Rattle.check_laws.specs.Seek.{Alike};
 ghost use Rattle.check_laws.specs.Fast.{listed, test, factor, passes};
 ghost use Rattle.check_laws.specs.Levels.{levelOf, ownOne};
@@ -15,7 +16,8 @@ use crate::Run;
 use crate::range;
 use check_laws::Query;
 use decimal::num::wide;
-use rules::Single;
+use pack_rules::RangeEnds;
+use pack_rules::Single;
 
 // x's remainder by m; x itself where m is 0.
 fn remainder(x: u64, m: u64) -> u64
@@ -35,8 +37,8 @@ fn turned(b: bool, negated: bool) -> bool
 }
 
 // What the relation says of the remainder y, or of the value y where it has no modulus.
-fn listed_run<'a>(low: &'a [u32; 2048], high: &'a [u32; 2048], s: Single, y: u64) -> Run
-    requires { ⌜ (s .to ≤ 2048) × (y ≤ cap) ⌝ }
+fn listed_run<'a>(low: &'a RangeEnds, high: &'a RangeEnds, s: Single, y: u64) -> Run
+    requires { ⌜ (s .to ≤ rangeRoom) × (y ≤ cap) ⌝ }
     ensures { λ r. ⌜ Alike (listed (relationBy (now (low .entry)) (now (high .entry)) s)) y (r .says) (r .stop) ⌝ }
     ensures { λ r. ⌜ r .stop ≤ far ⌝ }
 {
@@ -48,8 +50,8 @@ fn listed_run<'a>(low: &'a [u32; 2048], high: &'a [u32; 2048], s: Single, y: u64
 }
 
 // Whether it holds of the value x.
-pub fn holds_of<'a>(low: &'a [u32; 2048], high: &'a [u32; 2048], s: Single, x: u64) -> bool
-    requires { ⌜ (x ≤ cap) × (s .to ≤ 2048) ⌝ }
+pub fn holds_of<'a>(low: &'a RangeEnds, high: &'a RangeEnds, s: Single, x: u64) -> bool
+    requires { ⌜ (x ≤ cap) × (s .to ≤ rangeRoom) ⌝ }
     ensures { λ r. ⌜ r ≡ test (relationBy (now (low .entry)) (now (high .entry)) s) x ⌝ }
 {
     let y = remainder(x, wide(s.modulus));
@@ -136,8 +138,8 @@ fn upwards_by(y: u64, s: u64) -> u64
 
 // What the relation, which is asked, asks of p at its level.
 pub fn own_run<'a>(
-    low: &'a [u32; 2048],
-    high: &'a [u32; 2048],
+    low: &'a RangeEnds,
+    high: &'a RangeEnds,
     q: Query,
     level: usize,
     s: Single,
@@ -145,7 +147,7 @@ pub fn own_run<'a>(
 ) -> Run
     requires { ⌜ Fit q ⌝ }
     requires { ⌜ Room q p ⌝ }
-    requires { ⌜ (s .to ≤ 2048) × (level < 9) × (level ≡ tier q (relationBy (now low) (now high) s)) ⌝ }
+    requires { ⌜ (s .to ≤ rangeRoom) × (level < 9) × (level ≡ tier q (relationBy (now low) (now high) s)) ⌝ }
     ensures { λ r. ⌜ Alike (ownOne q level (relationBy (now (low .entry)) (now (high .entry)) s)) p (r .says) (r .stop) ⌝ }
     ensures { λ r. ⌜ r .stop ≤ far ⌝ }
 {
@@ -158,14 +160,8 @@ pub fn own_run<'a>(
 }
 
 // Whether x passes what the relation asks of it.
-pub fn passes_of<'a>(
-    low: &'a [u32; 2048],
-    high: &'a [u32; 2048],
-    q: Query,
-    s: Single,
-    x: u64,
-) -> bool
-    requires { ⌜ Room q x × (s .to ≤ 2048) ⌝ }
+pub fn passes_of<'a>(low: &'a RangeEnds, high: &'a RangeEnds, q: Query, s: Single, x: u64) -> bool
+    requires { ⌜ Room q x × (s .to ≤ rangeRoom) ⌝ }
     ensures { λ r. ⌜ r ≡ passes q (relationBy (now (low .entry)) (now (high .entry)) s) x ⌝ }
 {
     let k = factor_of(q, s.operand);

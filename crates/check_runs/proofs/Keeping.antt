@@ -14,9 +14,9 @@ use borrow.Author.Tests.{lt-ltb, le-ltb, eq-eqb, ne-eqb, eqb-true, eqb-false}
 use Rattle.decimal.specs.Choice.{if_then_else_, both}
 use Rattle.decimal.proofs.Choices.{tested}
 use Rattle.decimal.specs.Lists.{all}
-use Rattle.rules.specs.Syntax.{Relation}
-use Rattle.rules.specs.Stretch.{stretch, Table, relationAt}
-use Rattle.rules.proofs.Stretches.{stretch-snoc}
+use Rattle.pack_rules.specs.Syntax.{Relation}
+use Rattle.pack_rules.specs.Stretch.{stretch, Table, relationAt}
+use Rattle.pack_rules.proofs.Stretches.{stretch-snoc}
 use Rattle.check_laws.specs.Seek.{Alike}
 use Rattle.check_laws.proofs.Seeking.{split, and-false-left, and-false-right}
 use Rattle.check_laws.specs.Fast.{passes, ends, passesAll}

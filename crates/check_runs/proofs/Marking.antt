@@ -12,8 +12,8 @@ use lib.Seq.{getD-set-same, getD-set-other}
 use borrow.Author.Tests.{eqb-true, ne-eqb}
 use Rattle.decimal.specs.Choice.{if_then_else_, both}
 use Rattle.decimal.proofs.Choices.{choice, not-both, both-true}
-use Rattle.rules.specs.Syntax.{Relation}
-use Rattle.rules.specs.Stretch.{Table}
+use Rattle.pack_rules.specs.Syntax.{Relation}
+use Rattle.pack_rules.specs.Stretch.{Table}
 use Rattle.check_laws.proofs.Seeking.{split, and-true}
 use Rattle.check_laws.specs.Fast.{factor, asked}
 use Rattle.check_laws.specs.Levels.{levelOf, levelIn, stray, ownOne, lastDigit, own, levelled}

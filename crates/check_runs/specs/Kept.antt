@@ -6,8 +6,8 @@ use Prim.Native.Nat.{ℕ, _+_, _-_, _≤_, _<_}
 use lib.Dec.{ltb}
 use lib.ListN.{getD}
 use Rattle.decimal.specs.Choice.{if_then_else_}
-use Rattle.rules.specs.Syntax.{Relation}
-use Rattle.rules.specs.Stretch.{Table, relationAt}
+use Rattle.pack_rules.specs.Syntax.{Relation}
+use Rattle.pack_rules.specs.Stretch.{Table, relationAt}
 use Rattle.check_laws.specs.Fast.{asked}
 use Rattle.check_laws.specs.Levels.{levelIn, ownOne}
 use Rattle.check_laws.specs.declared.Query.{Query}

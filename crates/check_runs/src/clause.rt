@@ -5,7 +5,8 @@
 ghost use mathlib.Core.Path.{_≡_};
 ghost use mathlib.Core.Bool.{true, false};
 ghost use Prim.Native.Nat.{_+_, _-_, _≤_, _<_};
-ghost use Rattle.rules.specs.Stretch.{table, relationAt};
+ghost use Rattle.pack_rules.specs.Room.{relationRoom};
+ghost use Rattle.pack_rules.specs.Stretch.{table, relationAt};
 ghost use Rattle.check_laws.specs.Seek.{Alike};
 ghost use Rattle.check_laws.specs.Fast.{ends, passesAll};
 ghost use Rattle.check_laws.specs.Levels.{ownOne, lastDigit, own};
@@ -20,7 +21,9 @@ use check_relation::FAR;
 use check_relation::Run;
 use check_relation::relation;
 use decimal::num::lesser;
-use rules::single_at;
+use pack_rules::Columns;
+use pack_rules::RangeEnds;
+use pack_rules::single_at;
 
 // How many places there are from `from` to before `to`.
 fn count(from: usize, to: usize) -> usize
@@ -31,7 +34,7 @@ fn count(from: usize, to: usize) -> usize
 
 // How many relations the clause has.
 pub fn size_of(s: Span) -> usize
-    requires { ⌜ (s .to ≤ 320) × (s .stop ≤ 320) ⌝ }
+    requires { ⌜ (s .to ≤ relationRoom) × (s .stop ≤ relationRoom) ⌝ }
     ensures { λ r. ⌜ r ≡ sizeOf s ⌝ }
 {
     count(s.from, s.to) + count(s.start, s.stop)
@@ -39,9 +42,9 @@ pub fn size_of(s: Span) -> usize
 
 // Where the one of index k stands.
 pub fn place_of(s: Span, k: usize) -> usize
-    requires { ⌜ (s .to ≤ 320) × (s .stop ≤ 320) × (k < sizeOf s) ⌝ }
+    requires { ⌜ (s .to ≤ relationRoom) × (s .stop ≤ relationRoom) × (k < sizeOf s) ⌝ }
     ensures { λ r. ⌜ r ≡ placeOf s k ⌝ }
-    ensures { λ r. ⌜ r < 320 ⌝ }
+    ensures { λ r. ⌜ r < relationRoom ⌝ }
 {
     let n = count(s.from, s.to);
     if k < n {
@@ -77,9 +80,9 @@ fn sized<'a>(says: &'a [bool], stop: &'a [u64]) {}
 
 // The run of the relation k, as it is kept, or looked for anew and kept.
 fn run_at<'a>(
-    columns: &'a [u32; 1280],
-    low: &'a [u32; 2048],
-    high: &'a [u32; 2048],
+    columns: &'a Columns,
+    low: &'a RangeEnds,
+    high: &'a RangeEnds,
     s: Span,
     q: Query,
     level: usize,
@@ -90,7 +93,7 @@ fn run_at<'a>(
 ) -> Run
     requires { ⌜ Fit q ⌝ }
     requires { ⌜ Room q p ⌝ }
-    requires { ⌜ (s .to ≤ 320) × (s .stop ≤ 320) × (k < sizeOf s) × (k < keptRoom) × (level < 9) × (level ≡ tier q (relationAt (table (now columns) (now low) (now high)) (placeOf s k))) ⌝ }
+    requires { ⌜ (s .to ≤ relationRoom) × (s .stop ≤ relationRoom) × (k < sizeOf s) × (k < keptRoom) × (level < 9) × (level ≡ tier q (relationAt (table (now columns) (now low) (now high)) (placeOf s k))) ⌝ }
     requires { ⌜ Kept (table (now columns) (now low) (now high)) s q level p (now says) (now stop) ⌝ }
     ensures { λ r. ⌜ Alike (ownOne q level (relationAt (table (now (columns .entry)) (now (low .entry)) (now (high .entry))) (placeOf s k))) p (r .says) (r .stop) ⌝ }
     ensures { λ _. ⌜ Kept (table (now (columns .entry)) (now (low .entry)) (now (high .entry))) s q level p (now (says .exit)) (now (stop .exit)) ⌝ }
@@ -112,9 +115,9 @@ fn run_at<'a>(
 // What the clause asks of p at a level, and up to where it says the same. `list` has the relations of the
 // level; the first that says no ends it.
 pub fn clause_run<'a>(
-    columns: &'a [u32; 1280],
-    low: &'a [u32; 2048],
-    high: &'a [u32; 2048],
+    columns: &'a Columns,
+    low: &'a RangeEnds,
+    high: &'a RangeEnds,
     s: Span,
     q: Query,
     list: &[usize; KEPT],
@@ -126,7 +129,7 @@ pub fn clause_run<'a>(
 ) -> Run
     requires { ⌜ Fit q ⌝ }
     requires { ⌜ Room q p ⌝ }
-    requires { ⌜ (s .to ≤ 320) × (s .stop ≤ 320) × (sizeOf s ≤ keptRoom) × Listed (table (now columns) (now low) (now high)) s q level (now list) count ⌝ }
+    requires { ⌜ (s .to ≤ relationRoom) × (s .stop ≤ relationRoom) × (sizeOf s ≤ keptRoom) × Listed (table (now columns) (now low) (now high)) s q level (now list) count ⌝ }
     requires { ⌜ Kept (table (now columns) (now low) (now high)) s q level p (now says) (now stop) ⌝ }
     ensures { λ r. ⌜ Alike (own q (joinedIn (table (now (columns .entry)) (now (low .entry)) (now (high .entry))) s) level) p (r .says) (r .stop) ⌝ }
     ensures { λ r. ⌜ r .stop ≤ far ⌝ }
@@ -167,14 +170,14 @@ pub fn ends_of(q: Query, x: u64) -> bool
 
 // Whether x passes all that the clause asks of it.
 pub fn passes_at<'a>(
-    columns: &'a [u32; 1280],
-    low: &'a [u32; 2048],
-    high: &'a [u32; 2048],
+    columns: &'a Columns,
+    low: &'a RangeEnds,
+    high: &'a RangeEnds,
     s: Span,
     q: Query,
     x: u64,
 ) -> bool
-    requires { ⌜ Room q x × (s .to ≤ 320) × (s .stop ≤ 320) ⌝ }
+    requires { ⌜ Room q x × (s .to ≤ relationRoom) × (s .stop ≤ relationRoom) ⌝ }
     ensures { λ r. ⌜ r ≡ passesAll q (joinedIn (table (now (columns .entry)) (now (low .entry)) (now (high .entry))) s) x ⌝ }
 {
     if !ends_of(q, x) {

@@ -5,7 +5,8 @@ ghost use mathlib.Core.List.{List};
 ghost use Prim.Native.Nat.{ℕ, _≤_, _<_};
 ghost use lib.ListN.{length, getD};
 ghost use Rattle.decimal.specs.Choice.{if_then_else_};
-ghost use Rattle.rules.specs.Stretch.{relationBy, table};
+ghost use Rattle.pack_rules.specs.Room.{relationRoom};
+ghost use Rattle.pack_rules.specs.Stretch.{relationBy, table};
 ghost use Rattle.check_laws.specs.Levels.{own, levelled};
 ghost use Rattle.check_laws.specs.Read.{joinedIn};
 ghost use Rattle.check_laws.specs.Ready.{Fit};
@@ -17,8 +18,10 @@ use check_laws::Query;
 use check_laws::Span;
 use check_relation::relation;
 use decimal::num::wide;
-use rules::Single;
-use rules::single_at;
+use pack_rules::Columns;
+use pack_rules::RangeEnds;
+use pack_rules::Single;
+use pack_rules::single_at;
 
 // The level that is told of a relation that is not asked.
 const UNASKED: usize = 9;
@@ -63,16 +66,16 @@ fn mark_of(q: Query, s: Single, asked: &mut [bool; 9]) -> usize
 
 // Marks the levels that the clause asks, and tells that of each relation.
 pub fn mark_levels<'a>(
-    columns: &'a [u32; 1280],
-    low: &'a [u32; 2048],
-    high: &'a [u32; 2048],
+    columns: &'a Columns,
+    low: &'a RangeEnds,
+    high: &'a RangeEnds,
     s: Span,
     q: Query,
     asked: &mut [bool; 9],
     tiers: &mut [usize; KEPT],
 )
     requires { ⌜ Fit q ⌝ }
-    requires { ⌜ (s .to ≤ 320) × (s .stop ≤ 320) × (sizeOf s ≤ keptRoom) × (length (now tiers) ≡ keptRoom) ⌝ }
+    requires { ⌜ (s .to ≤ relationRoom) × (s .stop ≤ relationRoom) × (sizeOf s ≤ keptRoom) × (length (now tiers) ≡ keptRoom) ⌝ }
     ensures { λ _. ⌜ Told (table (now (columns .entry)) (now (low .entry)) (now (high .entry))) s q (now (tiers .exit)) ⌝ }
     ensures { λ _. ⌜ ((j : ℕ) → j < 9 → getD (now (asked .exit)) j false ≡ false → (x : ℕ) → own q (joinedIn (table (now (columns .entry)) (now (low .entry)) (now (high .entry))) s) j x ≡ true) ⌝ }
     ensures { λ _. ⌜ (getD (now (asked .exit)) 8 false ≡ false → levelled q (joinedIn (table (now (columns .entry)) (now (low .entry)) (now (high .entry))) s) ≡ true) ⌝ }

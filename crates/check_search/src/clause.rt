@@ -5,13 +5,14 @@ ghost use mathlib.Core.List.{List};
 ghost use Prim.Native.Nat.{ℕ, _^_, _≤_, _<_};
 ghost use Rattle.decimal.specs.Choice.{if_then_else_};
 ghost use Rattle.number.specs.Limits.{maxExponent};
-ghost use Rattle.rules.specs.Syntax.{Relation};
+ghost use Rattle.pack_rules.specs.Room.{relationRoom};
+ghost use Rattle.pack_rules.specs.Syntax.{Relation};
 ghost use Rattle.check_laws.specs.Bounded.{bounded};
 ghost use Rattle.check_laws.specs.Check.{lowest};
 ghost use Rattle.check_laws.specs.Fast.{queryI, exponentOf, fractions, fractionCode, integerOf, kindRank, clauseRank};
 ghost use Rattle.check_laws.specs.Floors.{NoneBelow, Under};
 ghost use Rattle.check_laws.specs.Profile.{profileOf};
-ghost use Rattle.rules.specs.Stretch.{table};
+ghost use Rattle.pack_rules.specs.Stretch.{table};
 ghost use Rattle.check_laws.specs.Read.{joinedIn};
 ghost use Rattle.check_laws.specs.Spots.{kindSpot, spotRank, Proper};
 use answer::Witness;
@@ -27,6 +28,8 @@ use check_places::places;
 use decimal::DigitValue;
 use decimal::Places;
 use decimal::num::power;
+use pack_rules::Columns;
+use pack_rules::RangeEnds;
 
 // The least integer part that an exponent allows.
 fn lowest_of(e: u64) -> u64
@@ -47,15 +50,15 @@ fn one_if(b: bool) -> u64
 
 // The least i at e; there is none below the floor.
 pub fn integer_of<'a>(
-    columns: &'a [u32; 1280],
-    low: &'a [u32; 2048],
-    high: &'a [u32; 2048],
+    columns: &'a Columns,
+    low: &'a RangeEnds,
+    high: &'a RangeEnds,
     s: Span,
     whole: bool,
     e: u64,
     floor: u64,
 ) -> u64
-    requires { ⌜ (e ≤ maxExponent) × (s .to ≤ 320) × (s .stop ≤ 320) × NoneBelow (queryI whole) (joinedIn (table (now columns) (now low) (now high)) s) floor ⌝ }
+    requires { ⌜ (e ≤ maxExponent) × (s .to ≤ relationRoom) × (s .stop ≤ relationRoom) × NoneBelow (queryI whole) (joinedIn (table (now columns) (now low) (now high)) s) floor ⌝ }
     ensures { λ r. ⌜ r ≡ integerOf whole e (joinedIn (table (now (columns .entry)) (now (low .entry)) (now (high .entry))) s) ⌝ }
 {
     let n = one_if(whole);
@@ -89,16 +92,16 @@ fn spot_of(e: u64, q: u64, i: u64) -> Witness
 // The least number at e whose f is not 0. There is no search where the floor leaves no t, and none for f
 // where there is no i.
 fn part_spot<'a>(
-    columns: &'a [u32; 1280],
-    low: &'a [u32; 2048],
-    high: &'a [u32; 2048],
+    columns: &'a Columns,
+    low: &'a RangeEnds,
+    high: &'a RangeEnds,
     s: Span,
     b: Bounds,
     p: u64,
     l: Floors,
     e: u64,
 ) -> Witness
-    requires { ⌜ (e ≤ maxExponent) × (s .to ≤ 320) × (s .stop ≤ 320) × Under (joinedIn (table (now columns) (now low) (now high)) s) l ⌝ }
+    requires { ⌜ (e ≤ maxExponent) × (s .to ≤ relationRoom) × (s .stop ≤ relationRoom) × Under (joinedIn (table (now columns) (now low) (now high)) s) l ⌝ }
     requires { ⌜ p ≡ profileOf (bounded b (joinedIn (table (now columns) (now low) (now high)) s)) ⌝ }
     ensures { λ r. ⌜ (spotRank r ≡ kindSpot false e (bounded b (joinedIn (table (now (columns .entry)) (now (low .entry)) (now (high .entry))) s))) × Proper r ⌝ }
 {
@@ -136,16 +139,16 @@ fn comes_first(p: u64, q: u64, i: u64) -> bool
 
 // The least number at e.
 fn spot_at<'a>(
-    columns: &'a [u32; 1280],
-    low: &'a [u32; 2048],
-    high: &'a [u32; 2048],
+    columns: &'a Columns,
+    low: &'a RangeEnds,
+    high: &'a RangeEnds,
     s: Span,
     b: Bounds,
     p: u64,
     l: Floors,
     e: u64,
 ) -> Witness
-    requires { ⌜ (e ≤ maxExponent) × (s .to ≤ 320) × (s .stop ≤ 320) × Under (joinedIn (table (now columns) (now low) (now high)) s) l ⌝ }
+    requires { ⌜ (e ≤ maxExponent) × (s .to ≤ relationRoom) × (s .stop ≤ relationRoom) × Under (joinedIn (table (now columns) (now low) (now high)) s) l ⌝ }
     requires { ⌜ (p ≡ profileOf (bounded b (joinedIn (table (now columns) (now low) (now high)) s))) × (e ≡ exponentOf (bounded b (joinedIn (table (now columns) (now low) (now high)) s))) ⌝ }
     ensures { λ r. ⌜ (spotRank r ≡ clauseRank (bounded b (joinedIn (table (now (columns .entry)) (now (low .entry)) (now (high .entry))) s))) × Proper r ⌝ }
 {
@@ -164,15 +167,15 @@ fn spot_at<'a>(
 
 // The least number of the clause whose v is within the bounds; p is the profile of both.
 pub fn clause_spot<'a>(
-    columns: &'a [u32; 1280],
-    low: &'a [u32; 2048],
-    high: &'a [u32; 2048],
+    columns: &'a Columns,
+    low: &'a RangeEnds,
+    high: &'a RangeEnds,
     s: Span,
     b: Bounds,
     p: u64,
     l: Floors,
 ) -> Witness
-    requires { ⌜ (s .to ≤ 320) × (s .stop ≤ 320) × Under (joinedIn (table (now columns) (now low) (now high)) s) l ⌝ }
+    requires { ⌜ (s .to ≤ relationRoom) × (s .stop ≤ relationRoom) × Under (joinedIn (table (now columns) (now low) (now high)) s) l ⌝ }
     requires { ⌜ p ≡ profileOf (bounded b (joinedIn (table (now columns) (now low) (now high)) s)) ⌝ }
     ensures { λ r. ⌜ (spotRank r ≡ clauseRank (bounded b (joinedIn (table (now (columns .entry)) (now (low .entry)) (now (high .entry))) s))) × Proper r ⌝ }
 {

@@ -13,8 +13,8 @@ use lib.Seq.{getD-set-same, getD-set-other}
 use Rattle.decimal.specs.Choice.{both}
 use Rattle.decimal.proofs.Choices.{never}
 use Rattle.decimal.proofs.Values.{power-pos, power-mono}
-use Rattle.rules.specs.Syntax.{Relation}
-use Rattle.rules.proofs.Stretches.{stretch-same}
+use Rattle.pack_rules.specs.Syntax.{Relation}
+use Rattle.pack_rules.proofs.Stretches.{stretch-same}
 use Rattle.check_laws.specs.Segments.{Segment, Level}
 use Rattle.check_laws.proofs.Seeking.{split, and-false-right}
 use Rattle.check_laws.specs.Levels.{own, below}

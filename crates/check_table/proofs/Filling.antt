@@ -11,7 +11,7 @@ use lib.ListN.{length, set}
 use lib.Seq.{getD-set-same, getD-set-other}
 use Rattle.decimal.specs.Choice.{both, either}
 use Rattle.decimal.proofs.Choices.{both-true}
-use Rattle.rules.proofs.Stretches.{stretch-cons, stretch-nil, stretch-snoc, stretch-same}
+use Rattle.pack_rules.proofs.Stretches.{stretch-cons, stretch-nil, stretch-snoc, stretch-same}
 use Rattle.check_laws.specs.Segments.{Segment, segment, within, inside, Rising, Starts, first, Level}
 use Rattle.check_laws.proofs.Seeking.{split}
 use Rattle.check_laws.proofs.Segmented.{before, behind, between, rising-end, rising-up}

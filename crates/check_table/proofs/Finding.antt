@@ -8,7 +8,7 @@ use Rattle.decimal.specs.Choice.{both}
 use Rattle.check_laws.specs.Seek.{Next, Alike}
 use Rattle.check_laws.proofs.Seeking.{split, and-false-left, and-false-right, and-true}
 use lib.ListN.{getD, replicate}
-use Rattle.rules.specs.Stretch.{Table}
+use Rattle.pack_rules.specs.Stretch.{Table}
 use Rattle.check_laws.specs.declared.Query.{Query}
 use Rattle.check_laws.specs.declared.Span.{Span}
 use Rattle.check_runs.specs.Kept.{Kept}

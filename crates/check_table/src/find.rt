@@ -1,7 +1,8 @@
 // The least number that the relations of one level allow and that passes the levels below it.
 ghost use mathlib.Core.Path.{_≡_};
 ghost use Prim.Native.Nat.{_≤_, _<_, min};
-ghost use Rattle.rules.specs.Stretch.{table};
+ghost use Rattle.pack_rules.specs.Room.{relationRoom};
+ghost use Rattle.pack_rules.specs.Stretch.{table};
 ghost use Rattle.check_laws.specs.Levels.{own, below};
 ghost use Rattle.check_laws.specs.Read.{joinedIn};
 ghost use Rattle.check_laws.specs.Ready.{Fit, Room};
@@ -17,13 +18,15 @@ use check_next::next;
 use check_runs::KEPT;
 use check_runs::clause::clause_run;
 use decimal::num::lesser;
+use pack_rules::Columns;
+use pack_rules::RangeEnds;
 
 // Looks at the run of p. Where the relations of the level do not hold, its end is where to go on; where
 // they do, the next number of the levels below j is: it is found where it lies in the run.
 fn look<'a>(
-    columns: &'a [u32; 1280],
-    low: &'a [u32; 2048],
-    high: &'a [u32; 2048],
+    columns: &'a Columns,
+    low: &'a RangeEnds,
+    high: &'a RangeEnds,
     s: Span,
     q: Query,
     list: &[usize; KEPT],
@@ -38,7 +41,7 @@ fn look<'a>(
     says: &mut [bool; KEPT],
     stop: &mut [u64; KEPT],
 ) -> Found
-    requires { ⌜ Fit q × Room q end × (p < end) × (s .to ≤ 320) × (s .stop ≤ 320) × (sizeOf s ≤ keptRoom) × Listed (table (now columns) (now low) (now high)) s q level (now list) count ⌝ }
+    requires { ⌜ Fit q × Room q end × (p < end) × (s .to ≤ relationRoom) × (s .stop ≤ relationRoom) × (sizeOf s ≤ keptRoom) × Listed (table (now columns) (now low) (now high)) s q level (now list) count ⌝ }
     requires { ⌜ Laid (now starts) (now ends) (now at) j ⌝ }
     requires { ⌜ Tabled (below q (joinedIn (table (now columns) (now low) (now high)) s)) (now starts) (now ends) (now at) j ⌝ }
     requires { ⌜ Kept (table (now columns) (now low) (now high)) s q level p (now says) (now stop) ⌝ }
@@ -62,9 +65,9 @@ fn look<'a>(
 // the levels below j, and up to where the relations of the level hold; or `end`, and past the numbers
 // that were looked at.
 pub fn find<'a>(
-    columns: &'a [u32; 1280],
-    low: &'a [u32; 2048],
-    high: &'a [u32; 2048],
+    columns: &'a Columns,
+    low: &'a RangeEnds,
+    high: &'a RangeEnds,
     s: Span,
     q: Query,
     list: &[usize; KEPT],
@@ -79,7 +82,7 @@ pub fn find<'a>(
     says: &mut [bool; KEPT],
     stop: &mut [u64; KEPT],
 ) -> Found
-    requires { ⌜ Fit q × Room q end × (from ≤ end) × (s .to ≤ 320) × (s .stop ≤ 320) × (sizeOf s ≤ keptRoom) × Listed (table (now columns) (now low) (now high)) s q level (now list) count ⌝ }
+    requires { ⌜ Fit q × Room q end × (from ≤ end) × (s .to ≤ relationRoom) × (s .stop ≤ relationRoom) × (sizeOf s ≤ keptRoom) × Listed (table (now columns) (now low) (now high)) s q level (now list) count ⌝ }
     requires { ⌜ Laid (now starts) (now ends) (now at) j ⌝ }
     requires { ⌜ Tabled (below q (joinedIn (table (now columns) (now low) (now high)) s)) (now starts) (now ends) (now at) j ⌝ }
     requires { ⌜ Kept (table (now columns) (now low) (now high)) s q level from (now says) (now stop) ⌝ }

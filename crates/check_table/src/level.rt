@@ -3,7 +3,8 @@ ghost use mathlib.Core.Path.{_≡_};
 ghost use mathlib.Core.Bool.{true, false};
 ghost use Prim.Native.Nat.{ℕ, _+_, _^_, _≤_, _<_};
 ghost use lib.ListN.{getD};
-ghost use Rattle.rules.specs.Stretch.{table};
+ghost use Rattle.pack_rules.specs.Room.{relationRoom};
+ghost use Rattle.pack_rules.specs.Stretch.{table};
 ghost use Rattle.check_laws.specs.Levels.{own, below};
 ghost use Rattle.check_laws.specs.Read.{joinedIn};
 ghost use Rattle.check_laws.specs.Ready.{Fit};
@@ -20,6 +21,8 @@ use check_next::Segments;
 use check_runs::KEPT;
 use check_runs::clause::size_of;
 use check_runs::marks::list_level;
+use pack_rules::Columns;
+use pack_rules::RangeEnds;
 
 pub const LEVELS: usize = 7;
 
@@ -27,9 +30,9 @@ pub const LEVELS: usize = 7;
 // allow, each from the first number on that passes the levels below. Returns the place behind the
 // last, or one past the room where it does not suffice.
 fn fill_level<'a>(
-    columns: &'a [u32; 1280],
-    low: &'a [u32; 2048],
-    high: &'a [u32; 2048],
+    columns: &'a Columns,
+    low: &'a RangeEnds,
+    high: &'a RangeEnds,
     s: Span,
     q: Query,
     tiers: &[usize; KEPT],
@@ -39,7 +42,7 @@ fn fill_level<'a>(
     j: usize,
     m: u64,
 ) -> usize
-    requires { ⌜ Fit q × (s .to ≤ 320) × (s .stop ≤ 320) × (sizeOf s ≤ keptRoom) × (j < 7) × (m ≡ 10 ^ j) × Told (table (now columns) (now low) (now high)) s q (now tiers) ⌝ }
+    requires { ⌜ Fit q × (s .to ≤ relationRoom) × (s .stop ≤ relationRoom) × (sizeOf s ≤ keptRoom) × (j < 7) × (m ≡ 10 ^ j) × Told (table (now columns) (now low) (now high)) s q (now tiers) ⌝ }
     requires { ⌜ Laid (now starts) (now ends) (now at) j ⌝ }
     requires { ⌜ Tabled (below q (joinedIn (table (now columns) (now low) (now high)) s)) (now starts) (now ends) (now at) j ⌝ }
     ensures { λ _. ⌜ Laid (now (starts .exit)) (now (ends .exit)) (now (at .entry)) j ⌝ }
@@ -87,9 +90,9 @@ fn fill_level<'a>(
 
 // Adds level j to the table, where its relations are asked; where they are not, it asks nothing.
 fn add_level<'a>(
-    columns: &'a [u32; 1280],
-    low: &'a [u32; 2048],
-    high: &'a [u32; 2048],
+    columns: &'a Columns,
+    low: &'a RangeEnds,
+    high: &'a RangeEnds,
     s: Span,
     q: Query,
     tiers: &[usize; KEPT],
@@ -100,7 +103,7 @@ fn add_level<'a>(
     j: usize,
     m: u64,
 ) -> Built
-    requires { ⌜ Fit q × (s .to ≤ 320) × (s .stop ≤ 320) × (sizeOf s ≤ keptRoom) × (j < 7) × (m ≡ 10 ^ j) × Told (table (now columns) (now low) (now high)) s q (now tiers) ⌝ }
+    requires { ⌜ Fit q × (s .to ≤ relationRoom) × (s .stop ≤ relationRoom) × (sizeOf s ≤ keptRoom) × (j < 7) × (m ≡ 10 ^ j) × Told (table (now columns) (now low) (now high)) s q (now tiers) ⌝ }
     requires { ⌜ (on ≡ false → (x : ℕ) → own q (joinedIn (table (now columns) (now low) (now high)) s) j x ≡ true) ⌝ }
     requires { ⌜ Laid (now starts) (now ends) (now at) j ⌝ }
     requires { ⌜ Tabled (below q (joinedIn (table (now columns) (now low) (now high)) s)) (now starts) (now ends) (now at) j ⌝ }
@@ -124,9 +127,9 @@ fn add_level<'a>(
 
 // Builds the levels of the table in turn.
 pub fn build<'a>(
-    columns: &'a [u32; 1280],
-    low: &'a [u32; 2048],
-    high: &'a [u32; 2048],
+    columns: &'a Columns,
+    low: &'a RangeEnds,
+    high: &'a RangeEnds,
     s: Span,
     q: Query,
     tiers: &[usize; KEPT],
@@ -135,7 +138,7 @@ pub fn build<'a>(
     ends: &mut Segments,
     at: &mut LevelPlaces,
 ) -> Built
-    requires { ⌜ Fit q × (s .to ≤ 320) × (s .stop ≤ 320) × (sizeOf s ≤ keptRoom) × Told (table (now columns) (now low) (now high)) s q (now tiers) ⌝ }
+    requires { ⌜ Fit q × (s .to ≤ relationRoom) × (s .stop ≤ relationRoom) × (sizeOf s ≤ keptRoom) × Told (table (now columns) (now low) (now high)) s q (now tiers) ⌝ }
     requires { ⌜ ((j : ℕ) → j < 9 → getD (now asked) j false ≡ false → (x : ℕ) → own q (joinedIn (table (now columns) (now low) (now high)) s) j x ≡ true) ⌝ }
     requires { ⌜ Laid (now starts) (now ends) (now at) 0 ⌝ }
     ensures { λ r. ⌜ BuiltAs (below q (joinedIn (table (now (columns .entry)) (now (low .entry)) (now (high .entry))) s)) (now (starts .exit)) (now (ends .exit)) (now (at .exit)) 7 r ⌝ }

@@ -5,14 +5,14 @@ use mathlib.Core.List.{List, [], _∷_}
 use Prim.Native.Nat.{ℕ}
 use Rattle.decimal.proofs.Choices.{never}
 use Rattle.answer.specs.declared.Refusal.{Refusal}
-use Rattle.rules.specs.Syntax.{Rule}
-use Rattle.grammar.specs.Reader.{PackAnswer}
-use Rattle.grammar.specs.Reader.PackAnswer.{Rules, Refused as PackRefused}
-use Rattle.bare.specs.Bare.{isBare, bareRule}
-use Rattle.bare.proofs.Bares.{bare-read}
-use Rattle.pack.specs.Answer.{readOf, rulesOf}
-use Rattle.pack.specs.declared.Read.{Read}
-use Rattle.pack.specs.declared.Read.the-variants.{Rules as Counted, Refused as Bad}
+use Rattle.pack_rules.specs.Syntax.{Rule}
+use Rattle.pack_grammar.specs.Reader.{PackAnswer}
+use Rattle.pack_grammar.specs.Reader.PackAnswer.{Rules, Refused as PackRefused}
+use Rattle.pack_bare.specs.Bare.{isBare, bareRule}
+use Rattle.pack_bare.proofs.Bares.{bare-read}
+use Rattle.pack_reader.specs.Answer.{readOf, rulesOf}
+use Rattle.pack_reader.specs.declared.Read.{Read}
+use Rattle.pack_reader.specs.declared.Read.the-variants.{Rules as Counted, Refused as Bad}
 use Rattle.check_laws.specs.Check.{against, firstPair, checkOf}
 use Rattle.check_laws.specs.declared.Checked.the-variants.{Passes as RulesPass}
 use Rattle.check_text.specs.Check.{checkedBy, checkRules, checkPack}

@@ -3,8 +3,8 @@ use mathlib.Core.List.{List}
 use Prim.Native.Nat.{ℕ}
 use Rattle.answer.specs.declared.Refusal.the-variants.{Rules as OfRules}
 use Rattle.answer.specs.declared.RulesRow.the-variants.{RulesClash}
-use Rattle.grammar.specs.Reader.{PackAnswer, readPack}
-use Rattle.grammar.specs.Reader.PackAnswer.{Rules, Refused as PackRefused}
+use Rattle.pack_grammar.specs.Reader.{PackAnswer, readPack}
+use Rattle.pack_grammar.specs.Reader.PackAnswer.{Rules, Refused as PackRefused}
 use Rattle.check_laws.specs.Check.{checkOf}
 use Rattle.check_laws.specs.declared.Checked.{Checked}
 use Rattle.check_laws.specs.declared.Checked.the-variants.{Passes as RulesPass, Clashes}

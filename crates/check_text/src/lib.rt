@@ -5,7 +5,12 @@ ghost use Rattle.check_text.specs.Check.{checkedBy, checkPack};
 use answer::Refusal;
 use answer::RulesRow;
 use check_laws::Checked;
-use pack::Read;
+use pack_reader::Read;
+use pack_rules::ClauseEnds;
+use pack_rules::Columns;
+use pack_rules::Keywords;
+use pack_rules::RangeEnds;
+use pack_rules::RuleEnds;
 
 pub enum PackCheck {
     Passes,
@@ -28,13 +33,13 @@ fn checked_by(c: Checked) -> PackCheck
 fn check_read(pack: &[u8]) -> PackCheck
     ensures { λ r. ⌜ r ≡ checkPack (now (pack .entry)) ⌝ }
 {
-    let mut low: [u32; 2048] = [0; 2048];
-    let mut high: [u32; 2048] = [0; 2048];
-    let mut columns: [u32; 1280] = [0; 1280];
-    let mut relations: [usize; 40] = [0; 40];
-    let mut keyword: [u8; 6] = [0; 6];
-    let mut clauses: [usize; 6] = [0; 6];
-    let read = pack::read_pack(
+    let mut low: RangeEnds = [0; 2048];
+    let mut high: RangeEnds = [0; 2048];
+    let mut columns: Columns = [0; 1280];
+    let mut relations: ClauseEnds = [0; 40];
+    let mut keyword: Keywords = [0; 6];
+    let mut clauses: RuleEnds = [0; 6];
+    let read = pack_reader::read_pack(
         pack,
         &mut low,
         &mut high,
@@ -61,7 +66,7 @@ fn check_read(pack: &[u8]) -> PackCheck
 pub fn check(pack: &[u8]) -> PackCheck
     ensures { λ r. ⌜ r ≡ checkPack (now (pack .entry)) ⌝ }
 {
-    if bare::is_bare(pack) {
+    if pack_bare::is_bare(pack) {
         return PackCheck::Passes;
     }
     check_read(pack)

@@ -13,7 +13,7 @@ use Rattle.decimal.proofs.Choices.{tested, not-both}
 use Rattle.answer.specs.declared.Keyword.{Keyword}
 use Rattle.answer.specs.declared.Keyword.the-variants.{Other}
 use Rattle.number.specs.declared.Number.{Number}
-use Rattle.rules.specs.Syntax.{Rule}
+use Rattle.pack_rules.specs.Syntax.{Rule}
 use Rattle.meaning.specs.Meaning.{meets}
 use Rattle.select.specs.Select.{metBy, bit, countMet, firstMet, secondMet, keywordAt, selection}
 use Rattle.select.specs.Words.{MeetsAt}

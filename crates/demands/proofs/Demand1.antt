@@ -25,9 +25,9 @@ use Rattle.number.specs.Reading.{readNumber}
 use Rattle.number.specs.declared.Number.{Number as Operands}
 use Rattle.number.specs.declared.Reading.{Reading}
 use Rattle.number.specs.declared.Reading.the-variants.{Is as NumberIs, Refused as NumberRefused}
-use Rattle.rules.specs.Syntax.{Rule}
-use Rattle.grammar.specs.Reader.{PackAnswer, rowOf}
-use Rattle.grammar.specs.Reader.PackAnswer.{Rules, Refused as PackRefused}
+use Rattle.pack_rules.specs.Syntax.{Rule}
+use Rattle.pack_grammar.specs.Reader.{PackAnswer, rowOf}
+use Rattle.pack_grammar.specs.Reader.PackAnswer.{Rules, Refused as PackRefused}
 use Rattle.select.specs.Words.{Chosen}
 use Rattle.select.specs.Words.Chosen.{none, one, two}
 use Rattle.select.specs.declared.Selection.{Selection}
@@ -40,8 +40,8 @@ use Rattle.symbols.specs.declared.Judged.{Judged}
 use Rattle.symbols.specs.declared.Judged.the-variants.{Good, Refused as SymbolsRefused}
 use Rattle.symbols_grammar.specs.Record.{Verdict as SymbolsVerdict}
 use Rattle.symbols_grammar.specs.Record.Verdict.{no-record, symbol-twice, bad-body, good}
-use Rattle.pattern.specs.declared.PatternReading.{PatternReading}
-use Rattle.pattern.specs.declared.PatternReading.the-variants.{Is as PatternIs, Refused as PatternRefused}
+use Rattle.pattern_reader.specs.declared.PatternReading.{PatternReading}
+use Rattle.pattern_reader.specs.declared.PatternReading.the-variants.{Is as PatternIs, Refused as PatternRefused}
 use Rattle.pattern_grammar.specs.Verdict.{Verdict as PatternVerdict}
 use Rattle.pattern_grammar.specs.Verdict.Verdict.{too-long as long-pattern, not-utf8, reserved, not-a-pattern, many-places, large-step, many-marks, other-marks, read as read-pattern}
 use Rattle.print.specs.declared.Printed.{Printed}

@@ -24,11 +24,11 @@ use Rattle.number.specs.declared.Number.{Number}
 use Rattle.number.specs.declared.Reading.{Reading}
 use Rattle.number.specs.declared.Reading.the-variants.{Is, Refused as NumberRefused}
 use Rattle.number.proofs.Admissible.{admitted, four-numbers}
-use Rattle.rules.specs.Syntax.{Rule}
-use Rattle.grammar.specs.Reader.{PackAnswer, readPack, segments}
-use Rattle.grammar.specs.Reader.PackAnswer.{Rules, Refused as PackRefused}
-use Rattle.grammar.specs.Segment.{AreRules, segmentRule}
-use Rattle.grammar.proofs.Shuffle.{perm-rules, rules-are, added-rules as read-added, shuffle as read-shuffle, larger as read-larger}
+use Rattle.pack_rules.specs.Syntax.{Rule}
+use Rattle.pack_grammar.specs.Reader.{PackAnswer, readPack, segments}
+use Rattle.pack_grammar.specs.Reader.PackAnswer.{Rules, Refused as PackRefused}
+use Rattle.pack_grammar.specs.Segment.{AreRules, segmentRule}
+use Rattle.pack_grammar.proofs.Shuffle.{perm-rules, rules-are, added-rules as read-added, shuffle as read-shuffle, larger as read-larger}
 use Rattle.meaning.specs.Meaning.{meets}
 use Rattle.select.specs.Select.{metBy, countMet, firstMet, secondMet, keywordAt, selection}
 use Rattle.select.specs.Words.{MeetsAt}

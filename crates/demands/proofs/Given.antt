@@ -24,13 +24,13 @@ use Rattle.number.specs.declared.Reading.{Reading}
 use Rattle.number.specs.declared.Reading.the-variants.{Is as NumberIs, Refused as NumberRefused}
 use Rattle.number.proofs.Table.{Told, given-if, read-if, told as number-told}
 use Rattle.number.proofs.Table.Told.{row as told-row, number as told-number}
-use Rattle.rules.specs.Syntax.{Rule}
-use Rattle.grammar.specs.Limits.{maxBytes}
-use Rattle.grammar.specs.Reader.{Parsed, Fault, PackAnswer, refusedAt, rowOf, judge, readPack, rulesFrom, faultFrom, segments}
-use Rattle.grammar.specs.Reader.Parsed.{Trees, Bad}
-use Rattle.grammar.specs.Reader.Fault.{None, At}
-use Rattle.grammar.specs.Reader.PackAnswer.{Rules, Refused as PackRefused}
-use Rattle.grammar.proofs.Table.{row-20, row-21, rows-22-26, read-rules}
+use Rattle.pack_rules.specs.Syntax.{Rule}
+use Rattle.pack_grammar.specs.Limits.{maxBytes}
+use Rattle.pack_grammar.specs.Reader.{Parsed, Fault, PackAnswer, refusedAt, rowOf, judge, readPack, rulesFrom, faultFrom, segments}
+use Rattle.pack_grammar.specs.Reader.Parsed.{Trees, Bad}
+use Rattle.pack_grammar.specs.Reader.Fault.{None, At}
+use Rattle.pack_grammar.specs.Reader.PackAnswer.{Rules, Refused as PackRefused}
+use Rattle.pack_grammar.proofs.Table.{row-20, row-21, rows-22-26, read-rules}
 use Rattle.select.specs.Select.{selection}
 use Rattle.select.specs.declared.Selection.{Selection}
 use Rattle.select.specs.declared.Selection.the-variants.{Refused as SelectionRefused}
@@ -49,9 +49,9 @@ use Rattle.symbols.specs.declared.Judged.the-variants.{Good, Refused as Symbols
 use Rattle.symbols.specs.Entries.{symbolIn, standardRecord, readSymbols}
 use Rattle.symbols_grammar.specs.Record.{Verdict as SymbolsVerdict}
 use Rattle.symbols_grammar.proofs.Records.{verdict-given as symbols-given, verdict-found as symbols-found, symbol-is}
-use Rattle.pattern.specs.declared.Pattern.{Pattern}
-use Rattle.pattern.specs.declared.PatternReading.the-variants.{Is as PatternIs, Refused as PatternRefused}
-use Rattle.pattern.specs.Reading.{readPattern}
+use Rattle.pattern_reader.specs.declared.Pattern.{Pattern}
+use Rattle.pattern_reader.specs.declared.PatternReading.the-variants.{Is as PatternIs, Refused as PatternRefused}
+use Rattle.pattern_reader.specs.Reading.{readPattern}
 use Rattle.pattern_grammar.specs.Verdict.{Verdict as PatternVerdict}
 use Rattle.pattern_grammar.proofs.Verdicts.{verdict-given as pattern-given, verdict-found as pattern-found}
 use Rattle.layout.specs.Text.{textOf}

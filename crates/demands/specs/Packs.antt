@@ -6,8 +6,8 @@ use Rattle.answer.specs.declared.Keyword.{Keyword}
 use Rattle.answer.specs.declared.Keyword.the-variants.{Other}
 use Rattle.number.specs.declared.Number.{Number}
 use Rattle.number.specs.declared.Reading.the-variants.{Is as NumberIs}
-use Rattle.rules.specs.Syntax.{Rule}
-use Rattle.grammar.specs.Reader.{segments}
+use Rattle.pack_rules.specs.Syntax.{Rule}
+use Rattle.pack_grammar.specs.Reader.{segments}
 use Rattle.select.specs.Words.{MeetsAt}
 use Rattle.select.specs.declared.Selection.{Selection}
 use Rattle.select.specs.declared.Selection.the-variants.{Word}

@@ -19,13 +19,13 @@ use Rattle.number.specs.Table.{Row, Past15}
 use Rattle.number.specs.declared.Number.{Number}
 use Rattle.number.specs.declared.Reading.{Reading}
 use Rattle.number.specs.declared.Reading.the-variants.{Is as NumberIs, Refused as NumberRefused}
-use Rattle.rules.specs.Syntax.{Rule}
-use Rattle.token.specs.Token.{tokens}
-use Rattle.grammar.specs.Limits.{maxBytes}
-use Rattle.grammar.specs.Reader.{PackAnswer, refusedAt, rowOf}
-use Rattle.grammar.specs.Reader.PackAnswer.{Rules, Refused as PackRefused}
-use Rattle.grammar.specs.WellFormed.{Culprit, Unfinished}
-use Rattle.grammar.specs.Falls.{Faulty, Tree}
+use Rattle.pack_rules.specs.Syntax.{Rule}
+use Rattle.pack_token.specs.Token.{tokens}
+use Rattle.pack_grammar.specs.Limits.{maxBytes}
+use Rattle.pack_grammar.specs.Reader.{PackAnswer, refusedAt, rowOf}
+use Rattle.pack_grammar.specs.Reader.PackAnswer.{Rules, Refused as PackRefused}
+use Rattle.pack_grammar.specs.WellFormed.{Culprit, Unfinished}
+use Rattle.pack_grammar.specs.Falls.{Faulty, Tree}
 use Rattle.select.specs.Words.{Chosen}
 use Rattle.select.specs.declared.Selection.{Selection}
 use Rattle.select.specs.declared.Selection.the-variants.{Refused as SelectionRefused}
@@ -35,8 +35,8 @@ use Rattle.check_text.specs.declared.PackCheck.the-variants.{Passes, Refused as
 use Rattle.symbols.specs.declared.Symbol.{Symbol}
 use Rattle.symbols.specs.declared.Judged.the-variants.{Good, Refused as SymbolsRefused}
 use Rattle.symbols_grammar.specs.Record.{Verdict as SymbolsVerdict, SymbolIs}
-use Rattle.pattern.specs.declared.Pattern.{Pattern}
-use Rattle.pattern.specs.declared.PatternReading.the-variants.{Is as PatternIs, Refused as PatternRefused}
+use Rattle.pattern_reader.specs.declared.Pattern.{Pattern}
+use Rattle.pattern_reader.specs.declared.PatternReading.the-variants.{Is as PatternIs, Refused as PatternRefused}
 use Rattle.pattern_grammar.specs.Verdict.{Verdict as PatternVerdict}
 use Rattle.print_grammar.specs.Text.{PrintedText}
 use Rattle.print.specs.declared.Printed.{Printed}

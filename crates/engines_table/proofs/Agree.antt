@@ -8,7 +8,7 @@ use borrow.Author.Tests.{eqb-true, eq-eqb, ne-eqb}
 use Rattle.decimal.specs.Choice.{both}
 use Rattle.answer.specs.declared.Pair.{Pair}
 use Rattle.answer.specs.declared.Witness.{Witness}
-use Rattle.rules.specs.Held.{Pack, heldRules}
+use Rattle.pack_rules.specs.Held.{Pack, heldRules}
 use Rattle.check_laws.specs.Check.{checkOf}
 use Rattle.check_laws.specs.declared.Checked.{Checked}
 use Rattle.check_laws.specs.declared.Checked.the-variants.{Passes, Clashes}

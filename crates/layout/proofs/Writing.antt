@@ -18,8 +18,8 @@ use Rattle.pattern_token.specs.Items.{tokenAt, itemsFrom, items, quotedAfter, i
 use Rattle.pattern_token.proofs.ItemLaws.{items-step}
 use Rattle.symbols.specs.declared.Symbol.{Symbol}
 use Rattle.symbols.specs.declared.Symbol.the-variants.{Decimal, Group}
-use Rattle.pattern.specs.declared.Span.{Span}
-use Rattle.pattern.specs.declared.Pattern.{Pattern}
+use Rattle.pattern_reader.specs.declared.Span.{Span}
+use Rattle.pattern_reader.specs.declared.Pattern.{Pattern}
 use Rattle.layout.specs.Layout.{wholeDigits, fractionDigits, zeroDigit, spell, mark, grouped, body}
 use Rattle.layout.specs.Text.{render, rendered, affixText, numberText}
 

@@ -12,10 +12,10 @@ use Rattle.pattern_token.specs.declared.Item.the-variants.{Text, Symbol as Symb
 use Rattle.pattern_token.specs.Items.{items}
 use Rattle.symbols.specs.declared.Symbol.{Symbol}
 use Rattle.symbols.specs.declared.Symbol.the-variants.{Decimal, Group, Minus, Plus, Percent, Permille}
-use Rattle.pattern.specs.declared.Span.{Span}
-use Rattle.pattern.specs.declared.Negative.{Negative}
-use Rattle.pattern.specs.declared.Negative.the-variants.{MinusSymbol, Own}
-use Rattle.pattern.specs.declared.Pattern.{Pattern}
+use Rattle.pattern_reader.specs.declared.Span.{Span}
+use Rattle.pattern_reader.specs.declared.Negative.{Negative}
+use Rattle.pattern_reader.specs.declared.Negative.the-variants.{MinusSymbol, Own}
+use Rattle.pattern_reader.specs.declared.Pattern.{Pattern}
 use Rattle.number.specs.declared.Number.{Number}
 use Rattle.nearest.specs.Nearest.{unitsOf}
 use Rattle.rounding.specs.Limits.{width}

@@ -8,9 +8,9 @@ use lib.ListN.{length, List·getD-eq-default}
 use Rattle.decimal.specs.Choice.{if_then_else_, both, either}
 use Rattle.decimal.specs.Lists.{all, any}
 use Rattle.number.specs.declared.Number.{Number}
-use Rattle.rules.specs.Syntax.{Range, Relation, Rule}
-use Rattle.rules.specs.Stretch.{stretch, startAt, Table, clauseAt}
-use Rattle.rules.proofs.Stretches.{stretch-cons, stretch-nil}
+use Rattle.pack_rules.specs.Syntax.{Range, Relation, Rule}
+use Rattle.pack_rules.specs.Stretch.{stretch, startAt, Table, clauseAt}
+use Rattle.pack_rules.proofs.Stretches.{stretch-cons, stretch-nil}
 use Rattle.meaning.specs.Meaning.{inRange, operandValue, isWhole, equals, holds, clauseHolds}
 use Rattle.meaning.specs.Places.{metAt}
 

@@ -6,7 +6,7 @@ use lib.Dec.{leb, eqb}
 use Rattle.decimal.specs.Choice.{if_then_else_, both, either}
 use Rattle.decimal.specs.Lists.{all, any}
 use Rattle.number.specs.declared.Number.{Number}
-use Rattle.rules.specs.Syntax.{Range, Relation, Rule}
+use Rattle.pack_rules.specs.Syntax.{Range, Relation, Rule}
 
 -- the operand's value where it is whole; n counts as i there. `c` and `e` are one operand.
 abbrev pub operandValue : ℕ → Number → ℕ

@@ -3,16 +3,19 @@ ghost use mathlib.Core.Path.{_≡_};
 ghost use Prim.Native.Nat.{_%_, _≤_, _<_, min};
 ghost use lib.ListN.{getD};
 ghost use Rattle.decimal.specs.Lists.{any};
-ghost use Rattle.rules.specs.Stretch.{startAt, rangesIn, relationBy, table, relationsIn, clausesIn};
+ghost use Rattle.pack_rules.specs.Room.{clauseRoom, rangeRoom, relationRoom};
+ghost use Rattle.pack_rules.specs.Stretch.{startAt, rangesIn, relationBy, table, relationsIn, clausesIn};
 ghost use Rattle.meaning.specs.Meaning.{inRange, operandValue, isWhole, holds, clauseHolds, conditionHolds};
 use decimal::num::fewer;
 use decimal::num::wide;
 use decimal::num::wide_byte;
 use number::Number;
-use rules::Single;
-use rules::single_at;
-
-const RELATION_ROOM: usize = 320;
+use pack_rules::ClauseEnds;
+use pack_rules::Columns;
+use pack_rules::RELATION_ROOM;
+use pack_rules::RangeEnds;
+use pack_rules::Single;
+use pack_rules::single_at;
 
 // x's remainder by m; x itself where m is 0.
 fn remainder(x: u64, m: u64) -> u64
@@ -72,14 +75,8 @@ fn in_range(a: u32, b: u32, x: u64) -> bool
 }
 
 // x is in one of the ranges at `from` to before `to`.
-fn in_ranges<'a>(
-    low: &'a [u32; 2048],
-    high: &'a [u32; 2048],
-    from: usize,
-    to: usize,
-    x: u64,
-) -> bool
-    requires { ⌜ to ≤ 2048 ⌝ }
+fn in_ranges<'a>(low: &'a RangeEnds, high: &'a RangeEnds, from: usize, to: usize, x: u64) -> bool
+    requires { ⌜ to ≤ rangeRoom ⌝ }
     ensures { λ r. ⌜ r ≡ any (inRange x) (rangesIn (now (low .entry)) (now (high .entry)) from to) ⌝ }
 {
     let mut k = from;
@@ -93,8 +90,8 @@ fn in_ranges<'a>(
 }
 
 // The relation holds.
-fn relation_holds<'a>(low: &'a [u32; 2048], high: &'a [u32; 2048], s: Single, x: Number) -> bool
-    requires { ⌜ s .to ≤ 2048 ⌝ }
+fn relation_holds<'a>(low: &'a RangeEnds, high: &'a RangeEnds, s: Single, x: Number) -> bool
+    requires { ⌜ s .to ≤ rangeRoom ⌝ }
     ensures { λ r. ⌜ r ≡ holds (relationBy (now (low .entry)) (now (high .entry)) s) x ⌝ }
 {
     if !is_whole(s.operand, x) {
@@ -110,14 +107,14 @@ fn relation_holds<'a>(low: &'a [u32; 2048], high: &'a [u32; 2048], s: Single, x:
 
 // The relations at `from` to before `to` all hold.
 fn clause_holds<'a>(
-    columns: &'a [u32; 1280],
-    low: &'a [u32; 2048],
-    high: &'a [u32; 2048],
+    columns: &'a Columns,
+    low: &'a RangeEnds,
+    high: &'a RangeEnds,
     from: usize,
     to: usize,
     x: Number,
 ) -> bool
-    requires { ⌜ to ≤ 320 ⌝ }
+    requires { ⌜ to ≤ relationRoom ⌝ }
     ensures { λ r. ⌜ r ≡ clauseHolds (relationsIn (table (now (columns .entry)) (now (low .entry)) (now (high .entry))) from to) x ⌝ }
 {
     let mut j = from;
@@ -131,8 +128,8 @@ fn clause_holds<'a>(
 }
 
 // Where the clause j's relations begin, and where they end.
-fn relations_start(relations: &[usize; 40], j: usize) -> usize
-    requires { ⌜ j < 40 ⌝ }
+fn relations_start(relations: &ClauseEnds, j: usize) -> usize
+    requires { ⌜ j < clauseRoom ⌝ }
     ensures { λ r. ⌜ r ≡ startAt (now (relations .entry)) j ⌝ }
 {
     if j == 0 {
@@ -141,24 +138,24 @@ fn relations_start(relations: &[usize; 40], j: usize) -> usize
     relations[j - 1]
 }
 
-fn relations_stop(relations: &[usize; 40], j: usize) -> usize
-    requires { ⌜ j < 40 ⌝ }
-    ensures { λ r. ⌜ r ≡ min (getD (now (relations .entry)) j 0) 320 ⌝ }
+fn relations_stop(relations: &ClauseEnds, j: usize) -> usize
+    requires { ⌜ j < clauseRoom ⌝ }
+    ensures { λ r. ⌜ r ≡ min (getD (now (relations .entry)) j 0) relationRoom ⌝ }
 {
     fewer(relations[j], RELATION_ROOM)
 }
 
 // One of the clauses at `from` to before `to` holds.
 pub fn condition_holds<'a>(
-    columns: &'a [u32; 1280],
-    low: &'a [u32; 2048],
-    high: &'a [u32; 2048],
-    relations: &'a [usize; 40],
+    columns: &'a Columns,
+    low: &'a RangeEnds,
+    high: &'a RangeEnds,
+    relations: &'a ClauseEnds,
     from: usize,
     to: usize,
     x: Number,
 ) -> bool
-    requires { ⌜ to ≤ 40 ⌝ }
+    requires { ⌜ to ≤ clauseRoom ⌝ }
     ensures { λ r. ⌜ r ≡ conditionHolds (clausesIn (table (now (columns .entry)) (now (low .entry)) (now (high .entry))) (now (relations .entry)) from to) x ⌝ }
 {
     let mut j = from;

@@ -15,14 +15,14 @@ use Rattle.pattern_token.specs.Items.{items}
 use Rattle.pattern_affix.specs.Affixes.{anyReserved}
 use Rattle.answer.specs.declared.PatternRow.{PatternRow}
 use Rattle.answer.specs.declared.PatternRow.the-variants.{NotAPattern, TooManyPlaces, StepTooLarge, PercentMismatch}
-use Rattle.pattern.specs.Limits.{maxBytes}
-use Rattle.pattern.specs.declared.Half.{Half}
-use Rattle.pattern.specs.declared.Negative.{Negative}
-use Rattle.pattern.specs.declared.Negative.the-variants.{MinusSymbol}
-use Rattle.pattern.specs.declared.Pattern.{Pattern}
-use Rattle.pattern.specs.declared.PatternReading.{PatternReading}
-use Rattle.pattern.specs.declared.PatternReading.the-variants.{Is}
-use Rattle.pattern.specs.Reading.{halfOf, endOf, fits, manyPlaces, stepOver, manyMarks, sameMarks, patternOf, ownAffixes, judgedMarks, halves, readPattern, refuse}
+use Rattle.pattern_reader.specs.Limits.{maxBytes}
+use Rattle.pattern_reader.specs.declared.Half.{Half}
+use Rattle.pattern_reader.specs.declared.Negative.{Negative}
+use Rattle.pattern_reader.specs.declared.Negative.the-variants.{MinusSymbol}
+use Rattle.pattern_reader.specs.declared.Pattern.{Pattern}
+use Rattle.pattern_reader.specs.declared.PatternReading.{PatternReading}
+use Rattle.pattern_reader.specs.declared.PatternReading.the-variants.{Is}
+use Rattle.pattern_reader.specs.Reading.{halfOf, endOf, fits, manyPlaces, stepOver, manyMarks, sameMarks, patternOf, ownAffixes, judgedMarks, halves, readPattern, refuse}
 use Rattle.pattern_grammar.specs.Grammar.{IsSub, IsPattern, one, two}
 use Rattle.pattern_grammar.specs.Meaning.{ManyPlaces, StepOver, ManyMarks, InEither, OtherMarks, ownIn, patternIn}
 use Rattle.pattern_grammar.specs.Verdict.{Plain, Past34, Past35, Verdict, too-long, not-utf8, reserved, not-a-pattern, many-places, large-step, many-marks, other-marks, read}

@@ -9,7 +9,7 @@ use lib.ListN.{length, getD}
 use Rattle.decimal.specs.Choice.{if_then_else_}
 use Rattle.decimal.specs.Lists.{AllOf}
 use Rattle.decimal.specs.Digits.{begins, AllDigits}
-use Rattle.numberpart.specs.Shape.{isHash, digits}
+use Rattle.pattern_number.specs.Shape.{isHash, digits}
 
 abbrev pub dropCommas : List ℕ → List ℕ
 dropCommas [] = []

@@ -23,10 +23,10 @@ use Rattle.number.specs.declared.Number.{Number}
 use Rattle.number.specs.declared.Reading.the-variants.{Is as NumberIs}
 use Rattle.number.specs.Reading.{readNumber}
 use Rattle.number.proofs.Admissible.{admitted}
-use Rattle.pattern.specs.declared.Pattern.{Pattern}
-use Rattle.pattern.specs.declared.PatternReading.the-variants.{Is as PatternIs}
-use Rattle.pattern.specs.Limits.{maxBytes}
-use Rattle.pattern.specs.Reading.{readPattern}
+use Rattle.pattern_reader.specs.declared.Pattern.{Pattern}
+use Rattle.pattern_reader.specs.declared.PatternReading.the-variants.{Is as PatternIs}
+use Rattle.pattern_reader.specs.Limits.{maxBytes}
+use Rattle.pattern_reader.specs.Reading.{readPattern}
 use Rattle.pattern_grammar.proofs.Verdicts.{not-read}
 use Rattle.pattern_grammar.proofs.Bounds.{read-bounds, read-factor}
 use Rattle.nearest.specs.Nearest.{unitsOf}

@@ -17,8 +17,8 @@ use Rattle.pattern_token.specs.Items.{tokenAt, quotedAfter, isNumber, itemsFrom
 use Rattle.symbols.specs.declared.Symbol.{Symbol}
 use Rattle.symbols.specs.declared.Symbol.the-variants.{Decimal, Group, Minus}
 use Rattle.symbols.specs.Entries.{bodyFits}
-use Rattle.pattern.specs.declared.Span.{Span}
-use Rattle.pattern.specs.declared.Pattern.{Pattern}
+use Rattle.pattern_reader.specs.declared.Span.{Span}
+use Rattle.pattern_reader.specs.declared.Pattern.{Pattern}
 use Rattle.layout.specs.declared.Affixes.{Affixes}
 use Rattle.layout.specs.Layout.{wholeDigits, fractionDigits, zeroDigit, spell, mark, grouped}
 use Rattle.layout.proofs.Spelling.{spell-four}

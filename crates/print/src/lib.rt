@@ -10,7 +10,7 @@ ghost use lib.ListN.{length};
 ghost use Rattle.area.specs.Area.{most};
 ghost use Rattle.rounding.specs.Limits.{within};
 ghost use Rattle.symbols.specs.Entries.{readSymbols, symbolIn, standardRecord};
-ghost use Rattle.pattern.specs.Reading.{readPattern};
+ghost use Rattle.pattern_reader.specs.Reading.{readPattern};
 ghost use Rattle.number.specs.Reading.{readNumber};
 ghost use Rattle.layout.specs.Text.{affixesOf, laidOut, textOf};
 ghost use Rattle.print.specs.Outcome.{text, ofNumber, afterNumber, afterPattern, outcome, answerOf, areaOf};
@@ -18,8 +18,8 @@ use answer::PrintRow;
 use answer::Refusal;
 use number::Number;
 use number::Reading;
-use pattern::Pattern;
-use pattern::PatternReading;
+use pattern_reader::Pattern;
+use pattern_reader::PatternReading;
 use symbols::Judged;
 
 // A text of so many bytes at the area's front, or why there is none.
@@ -93,7 +93,7 @@ fn print_pattern(house: &[u8], pattern: &[u8], number: &[u8], out: &mut [u8]) ->
     ensures { λ r. ⌜ r ≡ answerOf (afterPattern (now (house .entry)) (now (pattern .entry)) (readPattern (now (pattern .entry))) (now (number .entry))) (now (out .entry)) ⌝ }
     ensures { λ _. ⌜ now (out .exit) ≡ areaOf (afterPattern (now (house .entry)) (now (pattern .entry)) (readPattern (now (pattern .entry))) (now (number .entry))) (now (out .entry)) ⌝ }
 {
-    let reading = pattern::read_pattern(pattern);
+    let reading = pattern_reader::read_pattern(pattern);
     match reading {
         PatternReading::Is(p) => print_text(house, pattern, p, number, out),
         PatternReading::Refused(r) => Printed::Refused(r),

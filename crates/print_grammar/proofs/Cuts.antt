@@ -17,12 +17,12 @@ use Rattle.pattern_affix.specs.declared.Affix.{Affix}
 use Rattle.pattern_token.specs.Items.{starts, apostrophe, permille, currency, isPlace, isReserved, bareOf, token, tokenAt, quotedAfter, isNumber, itemsFrom, items}
 use Rattle.pattern_affix.specs.Affixes.{reserves, anyReserved, endsAffix, affixFrom, affix}
 use Rattle.pattern_token.proofs.ItemLaws.{token-fits}
-use Rattle.pattern.specs.declared.Span.{Span}
-use Rattle.pattern.specs.declared.Negative.{Negative}
-use Rattle.pattern.specs.declared.Negative.the-variants.{Own}
-use Rattle.pattern.specs.declared.Pattern.{Pattern}
-use Rattle.pattern.specs.declared.PatternReading.the-variants.{Is}
-use Rattle.pattern.specs.Reading.{places, prefixLen, readPattern}
+use Rattle.pattern_reader.specs.declared.Span.{Span}
+use Rattle.pattern_reader.specs.declared.Negative.{Negative}
+use Rattle.pattern_reader.specs.declared.Negative.the-variants.{Own}
+use Rattle.pattern_reader.specs.declared.Pattern.{Pattern}
+use Rattle.pattern_reader.specs.declared.PatternReading.the-variants.{Is}
+use Rattle.pattern_reader.specs.Reading.{places, prefixLen, readPattern}
 use Rattle.pattern_grammar.specs.NumberPart.{IsPart}
 use Rattle.pattern_grammar.specs.Grammar.{IsAffix, IsSub, IsPattern, one, two}
 use Rattle.pattern_grammar.specs.Texts.{textAt, Affixes}

@@ -15,13 +15,13 @@ use Rattle.symbols.specs.declared.Symbol.the-variants.{Decimal, Group, Minus}
 use Rattle.number.specs.declared.Number.{Number}
 use Rattle.number.specs.declared.Reading.the-variants.{Is as NumberIs}
 use Rattle.number.specs.Reading.{readNumber}
-use Rattle.pattern.specs.declared.Span.{Span}
-use Rattle.pattern.specs.declared.Negative.{Negative}
-use Rattle.pattern.specs.declared.Negative.the-variants.{MinusSymbol, Own}
-use Rattle.pattern.specs.declared.Pattern.{Pattern}
-use Rattle.pattern.specs.declared.PatternReading.the-variants.{Is as PatternIs}
-use Rattle.pattern.specs.Limits.{maxWhole, maxFraction}
-use Rattle.pattern.specs.Reading.{readPattern}
+use Rattle.pattern_reader.specs.declared.Span.{Span}
+use Rattle.pattern_reader.specs.declared.Negative.{Negative}
+use Rattle.pattern_reader.specs.declared.Negative.the-variants.{MinusSymbol, Own}
+use Rattle.pattern_reader.specs.declared.Pattern.{Pattern}
+use Rattle.pattern_reader.specs.declared.PatternReading.the-variants.{Is as PatternIs}
+use Rattle.pattern_reader.specs.Limits.{maxWhole, maxFraction}
+use Rattle.pattern_reader.specs.Reading.{readPattern}
 use Rattle.pattern_grammar.proofs.Bounds.{read-bounds}
 use Rattle.nearest.specs.Nearest.{unitsOf}
 use Rattle.rounding.specs.Limits.{width}

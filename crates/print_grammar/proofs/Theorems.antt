@@ -13,10 +13,10 @@ use Rattle.answer.specs.declared.PrintRow.the-variants.{AreaTooShort}
 use Rattle.symbols.specs.declared.Judged.{Judged}
 use Rattle.symbols.specs.declared.Judged.the-variants.{Good, Refused as SymbolsRefused}
 use Rattle.symbols.specs.Entries.{readSymbols}
-use Rattle.pattern.specs.declared.Pattern.{Pattern}
-use Rattle.pattern.specs.declared.PatternReading.{PatternReading}
-use Rattle.pattern.specs.declared.PatternReading.the-variants.{Is as PatternIs, Refused as PatternRefused}
-use Rattle.pattern.specs.Reading.{readPattern}
+use Rattle.pattern_reader.specs.declared.Pattern.{Pattern}
+use Rattle.pattern_reader.specs.declared.PatternReading.{PatternReading}
+use Rattle.pattern_reader.specs.declared.PatternReading.the-variants.{Is as PatternIs, Refused as PatternRefused}
+use Rattle.pattern_reader.specs.Reading.{readPattern}
 use Rattle.number.specs.declared.Number.{Number}
 use Rattle.number.specs.declared.Reading.{Reading}
 use Rattle.number.specs.declared.Reading.the-variants.{Is as NumberIs, Refused as NumberRefused}

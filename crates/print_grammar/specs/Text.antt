@@ -11,9 +11,9 @@ use Rattle.pattern_token.specs.Items.{starts, permille}
 use Rattle.symbols.specs.declared.Symbol.{Symbol}
 use Rattle.symbols.specs.declared.Symbol.the-variants.{Decimal, Group, Minus, Plus, Percent, Permille}
 use Rattle.number.specs.declared.Number.{Number}
-use Rattle.pattern.specs.declared.Span.{Span}
-use Rattle.pattern.specs.declared.Negative.the-variants.{MinusSymbol, Own}
-use Rattle.pattern.specs.declared.Pattern.{Pattern}
+use Rattle.pattern_reader.specs.declared.Span.{Span}
+use Rattle.pattern_reader.specs.declared.Negative.the-variants.{MinusSymbol, Own}
+use Rattle.pattern_reader.specs.declared.Pattern.{Pattern}
 use Rattle.pattern_grammar.specs.Grammar.{isBare}
 use Rattle.pattern_grammar.specs.Texts.{textAt}
 use Rattle.nearest.specs.Nearest.{Permitted}

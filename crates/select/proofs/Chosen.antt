@@ -16,7 +16,7 @@ use Rattle.answer.specs.declared.Refusal.the-variants.{Rules as OfRules}
 use Rattle.answer.specs.declared.RulesRow.the-variants.{TwoRulesMet}
 use Rattle.number.specs.declared.Number.{Number}
 use Rattle.number.specs.Alike.{negative}
-use Rattle.rules.specs.Syntax.{Range, Rule}
+use Rattle.pack_rules.specs.Syntax.{Range, Rule}
 use Rattle.meaning.specs.Meaning.{holds, meets}
 use Rattle.select.specs.Select.{metBy, bit, countMet, firstMet, secondMet, keywordAt, pairOf, chosen, selection}
 use Rattle.select.specs.Words.{MeetsAt, Chosen}

@@ -7,8 +7,8 @@ use native.Mathlib.Nat.{pow-suc, pow-succ', div-div-eq-div-mul, div-one, zero-di
 use native.Mathlib.Omega.{arith}
 use lib.ListN.{length, drop}
 use lib.Count.{ones, ones-step, trailingZeros, under}
-use Rattle.rules.specs.Stretch.{stretch}
-use Rattle.rules.proofs.Stretches.{stretch-snoc, length-stretch}
+use Rattle.pack_rules.specs.Stretch.{stretch}
+use Rattle.pack_rules.proofs.Stretches.{stretch-snoc, length-stretch}
 use Rattle.select.specs.Select.{bit, maskOf, countMet, firstMet}
 
 pub half-of : (b : Bool) (n : ℕ) → (bit b + 2 * n) / 2 ≡ n

@@ -14,10 +14,10 @@ use Rattle.answer.specs.declared.Pair.{Pair}
 use Rattle.answer.specs.declared.Refusal.the-variants.{Rules as OfRules}
 use Rattle.answer.specs.declared.RulesRow.the-variants.{TwoRulesMet}
 use Rattle.number.specs.declared.Number.{Number}
-use Rattle.rules.specs.Syntax.{Rule}
-use Rattle.rules.specs.Held.{Pack, keywordOf, heldRules}
-use Rattle.rules.specs.Stretch.{stretch, tableOf, ruleAt}
-use Rattle.rules.proofs.Stretches.{Sized, length-stretch, held-rules}
+use Rattle.pack_rules.specs.Syntax.{Rule}
+use Rattle.pack_rules.specs.Held.{Pack, keywordOf, heldRules}
+use Rattle.pack_rules.specs.Stretch.{stretch, tableOf, ruleAt}
+use Rattle.pack_rules.proofs.Stretches.{Sized, length-stretch, held-rules}
 use Rattle.meaning.specs.Meaning.{meets}
 use Rattle.select.specs.Select.{metBy, maskOf, countMet, firstMet, secondMet, keywordAt, pairOf, chosen, selection}
 use Rattle.meaning.specs.Places.{metAt}

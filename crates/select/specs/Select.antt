@@ -12,7 +12,7 @@ use Rattle.answer.specs.declared.Pair.{Pair}
 use Rattle.answer.specs.declared.Refusal.the-variants.{Rules as OfRules}
 use Rattle.answer.specs.declared.RulesRow.the-variants.{TwoRulesMet}
 use Rattle.number.specs.declared.Number.{Number}
-use Rattle.rules.specs.Syntax.{Rule}
+use Rattle.pack_rules.specs.Syntax.{Rule}
 use Rattle.meaning.specs.Meaning.{meets}
 use Rattle.select.specs.declared.Selection.{Selection}
 use Rattle.select.specs.declared.Selection.the-variants.{Word, Refused}

@@ -8,8 +8,9 @@ mod mask;
 ghost use mathlib.Core.Path.{_≡_};
 ghost use Prim.Native.Nat.{_<_};
 ghost use lib.ListN.{length, getD};
-ghost use Rattle.rules.specs.Held.{keywordOf, heldRules, lent};
-ghost use Rattle.rules.specs.Stretch.{table};
+ghost use Rattle.pack_rules.specs.Room.{ruleRoom};
+ghost use Rattle.pack_rules.specs.Held.{keywordOf, heldRules, lent};
+ghost use Rattle.pack_rules.specs.Stretch.{table};
 ghost use Rattle.meaning.specs.Places.{metAt};
 ghost use Rattle.select.specs.Select.{selection};
 use answer::Keyword;
@@ -17,6 +18,11 @@ use answer::Pair;
 use answer::Refusal;
 use answer::RulesRow;
 use number::Number;
+use pack_rules::ClauseEnds;
+use pack_rules::Columns;
+use pack_rules::Keywords;
+use pack_rules::RangeEnds;
+use pack_rules::RuleEnds;
 
 pub enum Selection {
     Word(Keyword),
@@ -37,8 +43,8 @@ fn keyword_of(k: u8) -> Keyword
 }
 
 // The keyword of the rule k.
-fn keyword_at(keyword: &[u8; 6], k: usize) -> Keyword
-    requires { ⌜ k < 6 ⌝ }
+fn keyword_at(keyword: &Keywords, k: usize) -> Keyword
+    requires { ⌜ k < ruleRoom ⌝ }
     ensures { λ r. ⌜ r ≡ keywordOf (getD (now (keyword .entry)) k 0) ⌝ }
 {
     keyword_of(keyword[k])
@@ -57,12 +63,12 @@ fn sized<'a>(
 // The word of a number by the first `count` rules in a pack's arrays, or refusal 27 with the first two
 // rules that it meets.
 pub fn select_held<'a>(
-    columns: &'a [u32; 1280],
-    low: &'a [u32; 2048],
-    high: &'a [u32; 2048],
-    relations: &'a [usize; 40],
-    keyword: &'a [u8; 6],
-    clauses: &'a [usize; 6],
+    columns: &'a Columns,
+    low: &'a RangeEnds,
+    high: &'a RangeEnds,
+    relations: &'a ClauseEnds,
+    keyword: &'a Keywords,
+    clauses: &'a RuleEnds,
     count: usize,
     x: Number,
 ) -> Selection
@@ -95,11 +101,11 @@ fn room(clauses: &[usize]) -> usize
 
 // Whether a number meets the rule at the index j of a pack's arrays; no number meets one past them.
 pub fn meets_held<'a>(
-    columns: &'a [u32; 1280],
-    low: &'a [u32; 2048],
-    high: &'a [u32; 2048],
-    relations: &'a [usize; 40],
-    clauses: &'a [usize; 6],
+    columns: &'a Columns,
+    low: &'a RangeEnds,
+    high: &'a RangeEnds,
+    relations: &'a ClauseEnds,
+    clauses: &'a RuleEnds,
     j: usize,
     x: Number,
 ) -> bool

@@ -2,27 +2,30 @@
 ghost use mathlib.Core.Path.{_≡_};
 ghost use Prim.Native.Nat.{_+_, _*_, _^_, _≤_, _<_, min};
 ghost use lib.ListN.{getD};
-ghost use Rattle.rules.specs.Stretch.{stretch, startAt, table};
+ghost use Rattle.pack_rules.specs.Room.{clauseRoom, ruleRoom};
+ghost use Rattle.pack_rules.specs.Stretch.{stretch, startAt, table};
 ghost use Rattle.meaning.specs.Places.{metAt};
 ghost use Rattle.select.specs.Select.{bit, maskOf};
 use decimal::num::fewer;
 use number::Number;
-
-const CLAUSE_ROOM: usize = 40;
-
-const RULE_ROOM: usize = 6;
+use pack_rules::CLAUSE_ROOM;
+use pack_rules::ClauseEnds;
+use pack_rules::Columns;
+use pack_rules::RULE_ROOM;
+use pack_rules::RangeEnds;
+use pack_rules::RuleEnds;
 
 // The bit k set where `on` is true.
 fn with_bit(mask: u32, k: u32, on: bool) -> u32
-    requires { ⌜ (mask < 2 ^ k) × (k < 6) ⌝ }
+    requires { ⌜ (mask < 2 ^ k) × (k < ruleRoom) ⌝ }
     ensures { λ r. ⌜ r ≡ mask + bit on * 2 ^ k ⌝ }
 {
     if on { mask | (1 << k) } else { mask }
 }
 
 // Where the rule j's clauses begin, and where they end.
-fn clauses_start(clauses: &[usize; 6], j: usize) -> usize
-    requires { ⌜ j < 6 ⌝ }
+fn clauses_start(clauses: &RuleEnds, j: usize) -> usize
+    requires { ⌜ j < ruleRoom ⌝ }
     ensures { λ r. ⌜ r ≡ startAt (now (clauses .entry)) j ⌝ }
 {
     if j == 0 {
@@ -31,24 +34,24 @@ fn clauses_start(clauses: &[usize; 6], j: usize) -> usize
     clauses[j - 1]
 }
 
-fn clauses_stop(clauses: &[usize; 6], j: usize) -> usize
-    requires { ⌜ j < 6 ⌝ }
-    ensures { λ r. ⌜ r ≡ min (getD (now (clauses .entry)) j 0) 40 ⌝ }
+fn clauses_stop(clauses: &RuleEnds, j: usize) -> usize
+    requires { ⌜ j < ruleRoom ⌝ }
+    ensures { λ r. ⌜ r ≡ min (getD (now (clauses .entry)) j 0) clauseRoom ⌝ }
 {
     fewer(clauses[j], CLAUSE_ROOM)
 }
 
 // Whether the number meets the rule j.
 pub fn met_at<'a>(
-    columns: &'a [u32; 1280],
-    low: &'a [u32; 2048],
-    high: &'a [u32; 2048],
-    relations: &'a [usize; 40],
-    clauses: &'a [usize; 6],
+    columns: &'a Columns,
+    low: &'a RangeEnds,
+    high: &'a RangeEnds,
+    relations: &'a ClauseEnds,
+    clauses: &'a RuleEnds,
     j: usize,
     x: Number,
 ) -> bool
-    requires { ⌜ j < 6 ⌝ }
+    requires { ⌜ j < ruleRoom ⌝ }
     ensures { λ r. ⌜ r ≡ metAt (table (now (columns .entry)) (now (low .entry)) (now (high .entry))) (now (relations .entry)) (now (clauses .entry)) x j ⌝ }
 {
     meaning::condition_holds(
@@ -64,11 +67,11 @@ pub fn met_at<'a>(
 
 // The bits of the first `count` rules.
 pub fn met_mask<'a>(
-    columns: &'a [u32; 1280],
-    low: &'a [u32; 2048],
-    high: &'a [u32; 2048],
-    relations: &'a [usize; 40],
-    clauses: &'a [usize; 6],
+    columns: &'a Columns,
+    low: &'a RangeEnds,
+    high: &'a RangeEnds,
+    relations: &'a ClauseEnds,
+    clauses: &'a RuleEnds,
     count: usize,
     x: Number,
 ) -> u32

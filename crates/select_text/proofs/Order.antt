@@ -18,14 +18,14 @@ use Rattle.number.specs.declared.Reading.{Reading}
 use Rattle.number.specs.declared.Reading.the-variants.{Is, Refused as NumberRefused}
 use Rattle.number.proofs.Operands.{sign-alone, leading-zero, marks-alike as number-marks}
 use Rattle.select.proofs.Chosen.{sign-no-word}
-use Rattle.rules.specs.Syntax.{Rule}
-use Rattle.grammar.specs.Reader.{PackAnswer, readPack}
-use Rattle.grammar.specs.Reader.PackAnswer.{Rules, Refused as PackRefused}
-use Rattle.bare.specs.Bare.{isBare, bareRule}
-use Rattle.bare.proofs.Bares.{bare-read}
-use Rattle.pack.specs.Answer.{readOf, rulesOf}
-use Rattle.pack.specs.declared.Read.{Read}
-use Rattle.pack.specs.declared.Read.the-variants.{Rules as Counted, Refused as Bad}
+use Rattle.pack_rules.specs.Syntax.{Rule}
+use Rattle.pack_grammar.specs.Reader.{PackAnswer, readPack}
+use Rattle.pack_grammar.specs.Reader.PackAnswer.{Rules, Refused as PackRefused}
+use Rattle.pack_bare.specs.Bare.{isBare, bareRule}
+use Rattle.pack_bare.proofs.Bares.{bare-read}
+use Rattle.pack_reader.specs.Answer.{readOf, rulesOf}
+use Rattle.pack_reader.specs.declared.Read.{Read}
+use Rattle.pack_reader.specs.declared.Read.the-variants.{Rules as Counted, Refused as Bad}
 use Rattle.select.specs.Select.{selection}
 use Rattle.select.specs.declared.Selection.{Selection}
 use Rattle.select.specs.declared.Selection.the-variants.{Word, Refused}

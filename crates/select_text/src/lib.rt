@@ -1,12 +1,17 @@
 // Chooses the plural word of a number text by a pack text.
 ghost use mathlib.Core.Path.{_≡_};
 ghost use mathlib.Core.List.{[], _∷_};
-ghost use Rattle.grammar.specs.Reader.{readPack};
-ghost use Rattle.bare.specs.Bare.{bareRule};
+ghost use Rattle.pack_grammar.specs.Reader.{readPack};
+ghost use Rattle.pack_bare.specs.Bare.{bareRule};
 ghost use Rattle.select_text.specs.Select.{selectNumber, selectRules, selectOf};
 use answer::Keyword;
 use number::Reading;
-use pack::Read;
+use pack_reader::Read;
+use pack_rules::ClauseEnds;
+use pack_rules::Columns;
+use pack_rules::Keywords;
+use pack_rules::RangeEnds;
+use pack_rules::RuleEnds;
 use select::Selection;
 
 // By the pack that is `other:` alone.
@@ -23,13 +28,13 @@ fn select_bare(reading: Reading) -> Selection
 fn select_read(pack: &[u8], reading: Reading) -> Selection
     ensures { λ r. ⌜ r ≡ selectRules (readPack (now (pack .entry))) reading ⌝ }
 {
-    let mut low: [u32; 2048] = [0; 2048];
-    let mut high: [u32; 2048] = [0; 2048];
-    let mut columns: [u32; 1280] = [0; 1280];
-    let mut relations: [usize; 40] = [0; 40];
-    let mut keyword: [u8; 6] = [0; 6];
-    let mut clauses: [usize; 6] = [0; 6];
-    let read = pack::read_pack(
+    let mut low: RangeEnds = [0; 2048];
+    let mut high: RangeEnds = [0; 2048];
+    let mut columns: Columns = [0; 1280];
+    let mut relations: ClauseEnds = [0; 40];
+    let mut keyword: Keywords = [0; 6];
+    let mut clauses: RuleEnds = [0; 6];
+    let read = pack_reader::read_pack(
         pack,
         &mut low,
         &mut high,
@@ -61,7 +66,7 @@ pub fn select(pack: &[u8], number: &[u8]) -> Selection
     ensures { λ r. ⌜ r ≡ selectOf (now (pack .entry)) (now (number .entry)) ⌝ }
 {
     let reading = number::read_number(number);
-    if bare::is_bare(pack) {
+    if pack_bare::is_bare(pack) {
         return select_bare(reading);
     }
     select_read(pack, reading)

@@ -1,6 +1,6 @@
 -- `check_fraction::alone_of` is a search that asks t only.
 use mathlib.Core.Path.{_∙_}
-use Rattle.rules.specs.Stretch.{table}
+use Rattle.pack_rules.specs.Stretch.{table}
 use Rattle.check_laws.specs.Read.{joinedIn}
 use Rattle.check_laws.proofs.Placing.{alone-is}
 use Rattle.check_laws.proofs.Readying.{alone-ready}

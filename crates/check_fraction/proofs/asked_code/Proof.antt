@@ -1,5 +1,5 @@
 -- `check_fraction::asked_code`: no v has room, the bound is reached, or a search at each count of zeros.
-use Rattle.rules.specs.Stretch.{table}
+use Rattle.pack_rules.specs.Stretch.{table}
 use Rattle.check_laws.specs.Read.{joinedIn}
 use Rattle.check_laws.specs.Bounded.{bounded}
 use mathlib.Core.Path.{_∙_}

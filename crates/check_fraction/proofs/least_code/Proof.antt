@@ -1,5 +1,5 @@
 -- `check_fraction::least_code` takes the least over the zeros at the end. Invariant: the best is that of fewer than k zeros.
-use Rattle.rules.specs.Stretch.{table}
+use Rattle.pack_rules.specs.Stretch.{table}
 use Rattle.check_laws.specs.Read.{joinedIn}
 use Rattle.check_laws.specs.Bounded.{bounded}
 use native.Mathlib.Omega.{arith}

@@ -1,5 +1,5 @@
 -- `check_fraction::least_f` is a search that asks f only.
-use Rattle.rules.specs.Stretch.{table}
+use Rattle.pack_rules.specs.Stretch.{table}
 use Rattle.check_laws.specs.Read.{joinedIn}
 use mathlib.Core.Path.{_∙_}
 use native.Mathlib.Omega.{arith}

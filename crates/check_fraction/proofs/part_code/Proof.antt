@@ -1,5 +1,5 @@
 -- `check_fraction::part_code`: no t, or the least over the zeros at the end, by whether f is asked.
-use Rattle.rules.specs.Stretch.{table}
+use Rattle.pack_rules.specs.Stretch.{table}
 use Rattle.check_laws.specs.Read.{joinedIn}
 use Rattle.check_laws.specs.Bounded.{bounded}
 use mathlib.Core.Path.{sym, _∙_}

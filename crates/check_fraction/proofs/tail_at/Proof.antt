@@ -1,5 +1,5 @@
 -- `check_fraction::tail_at` takes the t that is known where f is not asked, and else searches.
-use Rattle.rules.specs.Stretch.{table}
+use Rattle.pack_rules.specs.Stretch.{table}
 use Rattle.check_laws.specs.Read.{joinedIn}
 use mathlib.Core.Path.{refl, sym, _∙_}
 use borrow.Author.Tests.{not-true}

@@ -1,7 +1,7 @@
 -- `check_fraction::tail_code`: no v, no v with room for t, or the least v with the least t.
 use mathlib.Core.Path.{_∙_}
 use native.Mathlib.Omega.{arith}
-use Rattle.rules.specs.Stretch.{table}
+use Rattle.pack_rules.specs.Stretch.{table}
 use Rattle.check_laws.specs.Bounded.{bounded}
 use Rattle.check_laws.specs.Read.{joinedIn}
 use Rattle.check_laws.proofs.Bounding.{bounded-tail}

@@ -1,6 +1,6 @@
 -- `check_fraction::tail_of` is a search with the factor 10 ^ k for f.
 use mathlib.Core.Path.{_∙_}
-use Rattle.rules.specs.Stretch.{table}
+use Rattle.pack_rules.specs.Stretch.{table}
 use Rattle.check_laws.specs.Read.{joinedIn}
 use Rattle.check_laws.proofs.Flooring.{below-alone, below-tail}
 use Rattle.check_laws.proofs.Placing.{tail-is}

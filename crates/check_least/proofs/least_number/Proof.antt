@@ -1,6 +1,6 @@
 -- `check_least::least_number` searches where there is room.
 use mathlib.Core.Path.{sym, _∙_}
-use Rattle.rules.specs.Stretch.{table}
+use Rattle.pack_rules.specs.Stretch.{table}
 use Rattle.check_laws.proofs.Readying.{ready-room, ready-fit}
 use Rattle.check_least.proofs.Searching.{answer-ready, answer-not}
 use borrow.Author.Needs.{needs}

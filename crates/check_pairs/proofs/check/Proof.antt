@@ -1,7 +1,7 @@
 -- `check_pairs::check`: the profiles and floors are filled in, and the pairs in turn are those of the rules that the pack holds.
 use native.Mathlib.Omega.{arith}
-use Rattle.rules.specs.Held.{lent}
-use Rattle.rules.specs.Stretch.{table}
+use Rattle.pack_rules.specs.Held.{lent}
+use Rattle.pack_rules.specs.Stretch.{table}
 use Rattle.check_laws.proofs.Flooring.{floored-fresh}
 use Rattle.check_laws.proofs.Holding.{held-is}
 use Rattle.check_laws.proofs.Profiles.{profiled-rules}

@@ -2,8 +2,8 @@
 use mathlib.Core.List.{List}
 use Prim.Native.Nat.{ℕ}
 use Rattle.answer.specs.declared.Keyword.the-variants.{Other}
-use Rattle.rules.specs.Syntax.{Relation}
-use Rattle.rules.specs.Held.{lent}
+use Rattle.pack_rules.specs.Syntax.{Relation}
+use Rattle.pack_rules.specs.Held.{lent}
 use Rattle.check_laws.specs.Check.{clashOf}
 use Rattle.check_laws.proofs.Holding.{held-by}
 use borrow.Author.Needs.{needs}

@@ -4,8 +4,8 @@ use mathlib.Core.List.{[], _∷_}
 use mathlib.Core.Logic.{_⊎_, inl, inr}
 use Prim.Native.Nat.{_-_, _≤_}
 use native.Mathlib.Omega.{arith}
-use Rattle.rules.specs.Stretch.{relationBy, table, relationsIn}
-use Rattle.rules.specs.declared.Single.{Single}
+use Rattle.pack_rules.specs.Stretch.{relationBy, table, relationsIn}
+use Rattle.pack_rules.specs.declared.Single.{Single}
 use Rattle.check_laws.specs.Profile.{profileOf}
 use Rattle.check_profile.proofs.Meeting.{met-none, met-more, met-all}
 use borrow.Author.Needs.{needs}

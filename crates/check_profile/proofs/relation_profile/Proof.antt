@@ -1,5 +1,5 @@
 -- `check_profile::relation_profile`: letter by letter.
-use Rattle.rules.specs.Stretch.{relationBy}
+use Rattle.pack_rules.specs.Stretch.{relationBy}
 use mathlib.Core.Path.{refl, ap, _∙_}
 use Prim.Native.Nat.{ℕ, _+_}
 use native.Mathlib.Omega.{arith}

@@ -1,6 +1,6 @@
 -- `check_search::floors_of` is three searches from 0 on, where 0 is a floor.
 use native.Mathlib.Omega.{arith}
-use Rattle.rules.specs.Stretch.{table}
+use Rattle.pack_rules.specs.Stretch.{table}
 use Rattle.check_laws.specs.Read.{joinedIn}
 use Rattle.check_laws.specs.declared.Floors.{Floors}
 use Rattle.check_laws.proofs.Flooring.{found-integer, found-tail, under-found}

@@ -1,5 +1,5 @@
 -- `check_search::least_admitted` is the search that is run, and that is the definition's.
-use Rattle.rules.specs.Stretch.{table}
+use Rattle.pack_rules.specs.Stretch.{table}
 use Rattle.check_laws.specs.Read.{joinedIn}
 use Rattle.check_laws.specs.Spots.{spotRank}
 use mathlib.Core.Path.{sym, subst}

@@ -1,9 +1,9 @@
 -- `check_read` answers `checkPack`: the pack's refusal, or what its rules give.
 use mathlib.Core.Path.{ap, _∙_}
-use Rattle.grammar.specs.Reader.{readPack}
+use Rattle.pack_grammar.specs.Reader.{readPack}
 use Rattle.check_text.specs.Check.{checkedBy}
 use Rattle.check_text.proofs.Order.{good, bad}
-use Rattle.pack.proofs.Sims.{rules-left}
+use Rattle.pack_reader.proofs.Sims.{rules-left}
 use borrow.Author.Needs.{needs}
 use Rattle.check_text.proofs.check_read.Statement.{statement}
 use Rattle.check_text.proofs.check_read.Tie as tie

@@ -1,10 +1,10 @@
 -- `meaning::clause_holds` tests a stretch of relations. The invariant: what is left decides as the whole does.
-use Rattle.rules.specs.declared.Single.{Single}
+use Rattle.pack_rules.specs.declared.Single.{Single}
 use mathlib.Core.Path.{_≡_, sym, ap, _∙_}
 use Prim.Native.Nat.{_-_}
 use borrow.Author.Tests.{not-true, not-false}
-use Rattle.rules.specs.Syntax.{Relation}
-use Rattle.rules.specs.Stretch.{relationBy, table, relationAt, relationsIn}
+use Rattle.pack_rules.specs.Syntax.{Relation}
+use Rattle.pack_rules.specs.Stretch.{relationBy, table, relationAt, relationsIn}
 use Rattle.meaning.specs.Meaning.{holds, clauseHolds}
 use Rattle.meaning.proofs.Meanings.{all-failed, all-next, all-passed}
 use borrow.Author.Needs.{needs}

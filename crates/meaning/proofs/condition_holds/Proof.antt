@@ -2,8 +2,8 @@
 use mathlib.Core.Path.{_≡_, sym, _∙_}
 use mathlib.Core.List.{List}
 use Prim.Native.Nat.{_-_}
-use Rattle.rules.specs.Syntax.{Relation}
-use Rattle.rules.specs.Stretch.{table, clauseAt, clausesIn}
+use Rattle.pack_rules.specs.Syntax.{Relation}
+use Rattle.pack_rules.specs.Stretch.{table, clauseAt, clausesIn}
 use Rattle.meaning.specs.Meaning.{clauseHolds, conditionHolds}
 use Rattle.meaning.proofs.Meanings.{any-found, any-next, any-none}
 use borrow.Author.Needs.{needs}

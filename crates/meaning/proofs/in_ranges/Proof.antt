@@ -2,7 +2,7 @@
 use mathlib.Core.Path.{_≡_, sym, _∙_}
 use Prim.Native.Nat.{_≤_, _-_}
 use Rattle.decimal.specs.Lists.{any}
-use Rattle.rules.specs.Stretch.{stretch, rangeAt, rangesIn}
+use Rattle.pack_rules.specs.Stretch.{stretch, rangeAt, rangesIn}
 use Rattle.meaning.specs.Meaning.{inRange}
 use Rattle.meaning.proofs.Meanings.{any-found, any-next, any-none}
 use borrow.Author.Needs.{needs}

@@ -1,6 +1,6 @@
 use mathlib.Core.Path.{sym, _∙_}
 use borrow.Author.Tests.{not-true, not-false}
-use Rattle.rules.specs.Stretch.{relationBy}
+use Rattle.pack_rules.specs.Stretch.{relationBy}
 use Rattle.meaning.proofs.Meanings.{not-whole, listed, holds-negated, holds-plain}
 -- `meaning::relation_holds` answers `holds` of the relation.
 use borrow.Author.Needs.{needs}

@@ -1,6 +1,6 @@
 -- `select::meets_held` asks the rule at a place within the arrays; past them there is none.
 use native.Mathlib.Omega.{arith}
-use Rattle.rules.specs.Stretch.{table}
+use Rattle.pack_rules.specs.Stretch.{table}
 use Rattle.meaning.proofs.Meanings.{past-none}
 use borrow.Author.Needs.{needs}
 use Rattle.select.proofs.meets_held.Statement.{statement}

@@ -5,8 +5,8 @@ use mathlib.Core.Path.{_≡_, ap, _∙_}
 use Rattle.select.specs.declared.Selection.the-variants.{Word, Refused}
 use Prim.Native.Nat.{_<_, _≤_}
 use lib.Count.{ones, trailingZeros}
-use Rattle.rules.specs.Held.{Pack, lent}
-use Rattle.rules.proofs.Stretches.{Sized}
+use Rattle.pack_rules.specs.Held.{Pack, lent}
+use Rattle.pack_rules.proofs.Stretches.{Sized}
 use Rattle.select.proofs.Selections.{Met, met, first-small, none-met, one-met, second-small, two-met}
 use borrow.Author.Needs.{needs}
 use Rattle.select.proofs.select_held.Statement.{statement}

@@ -1,8 +1,8 @@
 -- `select_read` answers `selectRules`: the pack's refusal, the number's, or what the rules give the number.
 use mathlib.Core.Path.{_∙_}
-use Rattle.grammar.specs.Reader.{readPack}
+use Rattle.pack_grammar.specs.Reader.{readPack}
 use Rattle.select_text.proofs.Order.{word, unread, bad}
-use Rattle.pack.proofs.Sims.{rules-left}
+use Rattle.pack_reader.proofs.Sims.{rules-left}
 use borrow.Author.Needs.{needs}
 use Rattle.select_text.proofs.select_read.Statement.{statement}
 use Rattle.select_text.proofs.select_read.Tie as tie

@@ -1,6 +1,6 @@
 -- `check_clauses::floors::clause_floors`: zeros, or those of the clause as one stretch beside an empty one.
 use native.Mathlib.Omega.{arith}
-use Rattle.rules.specs.Stretch.{table, clauseAt}
+use Rattle.pack_rules.specs.Stretch.{table, clauseAt}
 use Rattle.check_laws.proofs.Flooring.{under-none, under-one}
 use borrow.Author.Needs.{needs}
 use Rattle.check_clauses.proofs.floors.clause_floors.Statement.{statement}

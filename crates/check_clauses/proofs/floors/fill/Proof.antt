@@ -1,7 +1,7 @@
 -- `check_clauses::floors::fill` puts in those of each clause in turn. Invariant: the arrays hold floors.
 use native.Mathlib.Omega.{arith}
 use Prim.Native.Nat.{_-_, _≤_}
-use Rattle.rules.specs.Stretch.{table}
+use Rattle.pack_rules.specs.Stretch.{table}
 use Rattle.check_laws.specs.Floors.{Floored}
 use Rattle.check_laws.proofs.Flooring.{floored-set}
 use borrow.Author.Needs.{needs}

@@ -1,5 +1,5 @@
 -- `check_clauses::profiled::fill` puts in those of each clause in turn. Invariant: those before are in.
-use Rattle.rules.specs.Stretch.{table}
+use Rattle.pack_rules.specs.Stretch.{table}
 use mathlib.Core.Path.{_≡_, subst}
 use native.Mathlib.Omega.{arith}
 use Prim.Native.Nat.{_-_, _≤_}

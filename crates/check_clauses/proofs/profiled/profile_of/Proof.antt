@@ -1,5 +1,5 @@
 -- `check_clauses::profiled::profile_of` is that of the clause's stretch.
-use Rattle.rules.specs.Stretch.{table}
+use Rattle.pack_rules.specs.Stretch.{table}
 use native.Mathlib.Omega.{arith}
 use Rattle.check_laws.proofs.Profiles.{profile-clause}
 use borrow.Author.Needs.{needs}

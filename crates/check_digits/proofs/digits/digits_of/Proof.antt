@@ -3,7 +3,7 @@ use native.Mathlib.Omega.{arith}
 use mathlib.Core.Path.{_≡_}
 use Prim.Native.Nat.{_%_}
 use borrow.Author.Tests.{not-true, not-false}
-use Rattle.rules.specs.Stretch.{relationBy}
+use Rattle.pack_rules.specs.Stretch.{relationBy}
 use Rattle.check_digits.proofs.Rounds.{ends-any-digit, ends-reached, ends-endless, ends-spared}
 use borrow.Author.Needs.{needs}
 use Rattle.check_digits.proofs.digits.digits_of.Statement.{statement}

@@ -1,7 +1,7 @@
 -- `check_digits::values::values_of`: one value more at each turn.
 use native.Mathlib.Omega.{arith}
 use Rattle.check_digits.proofs.Filling.{SoFar, so-far-none, so-far-lt, so-far-room, so-far-more, so-far-all}
-use Rattle.rules.specs.Stretch.{relationBy}
+use Rattle.pack_rules.specs.Stretch.{relationBy}
 use mathlib.Core.Path.{refl}
 use Prim.Native.Nat.{_-_, _≤_}
 use Rattle.check_laws.specs.Fast.{test}

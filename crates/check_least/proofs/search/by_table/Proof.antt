@@ -3,7 +3,7 @@ use native.Mathlib.Omega.{arith}
 use lib.ListN.{length-replicate}
 use Rattle.check_runs.proofs.Keeping.{gathered-listed}
 use Prim.Native.Nat.{ℕ}
-use Rattle.rules.specs.Stretch.{table}
+use Rattle.pack_rules.specs.Stretch.{table}
 use Rattle.check_laws.specs.Read.{joinedIn}
 use Rattle.check_table.proofs.Finding.{kept-fresh}
 use Rattle.check_least.proofs.Searching.{least-levelled}

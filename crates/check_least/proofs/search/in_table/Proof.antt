@@ -1,5 +1,5 @@
 -- `check_least::search::in_table`: the table stands, or no number passes its levels, or each number is tried.
-use Rattle.rules.specs.Stretch.{table}
+use Rattle.pack_rules.specs.Stretch.{table}
 use Rattle.check_laws.specs.Read.{joinedIn}
 use Rattle.check_least.proofs.Searching.{least-empty, laid-fresh}
 use borrow.Author.Needs.{needs}

@@ -4,7 +4,7 @@ use lib.ListN.{length-replicate}
 use Rattle.check_runs.proofs.Keeping.{gathered-listed}
 use Prim.Native.Nat.{ℕ, _-_}
 use mathlib.Core.Path.{_∙_}
-use Rattle.rules.specs.Stretch.{table}
+use Rattle.pack_rules.specs.Stretch.{table}
 use Rattle.check_laws.specs.Read.{joinedIn}
 use Rattle.check_laws.specs.Levels.{own, window}
 use Rattle.check_laws.proofs.Searched.{room-le}

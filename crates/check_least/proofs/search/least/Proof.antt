@@ -1,7 +1,7 @@
 -- `check_least::search::least`: none before the first number passes; it is the answer where it passes.
 use native.Mathlib.Omega.{arith}
 use mathlib.Core.Path.{sym, _∙_}
-use Rattle.rules.specs.Stretch.{table}
+use Rattle.pack_rules.specs.Stretch.{table}
 use Rattle.check_laws.specs.Fast.{passesAll}
 use Rattle.check_laws.specs.Read.{joinedIn}
 use Rattle.check_laws.proofs.Searched.{room-le}

@@ -3,7 +3,7 @@ use native.Mathlib.Omega.{arith}
 use Prim.Native.Nat.{_-_, min}
 use mathlib.Core.Path.{_≡_}
 use Rattle.check_laws.specs.Fast.{fastRank, bothOf}
-use Rattle.rules.specs.Stretch.{table, clausesIn}
+use Rattle.pack_rules.specs.Stretch.{table, clausesIn}
 use Rattle.check_laws.specs.Spots.{spotRank, Proper}
 use Rattle.check_laws.proofs.Pairing.{both-start, both-more, both-end}
 use borrow.Author.Needs.{needs}

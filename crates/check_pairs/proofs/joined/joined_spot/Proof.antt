@@ -4,7 +4,7 @@ use lib.ListN.{getD}
 use mathlib.Core.List.{_++_}
 use native.Mathlib.Omega.{arith}
 use lib.Bits.{bitAnd}
-use Rattle.rules.specs.Stretch.{table, relationsIn}
+use Rattle.pack_rules.specs.Stretch.{table, relationsIn}
 use Rattle.check_laws.proofs.Bounding.{unbounded}
 use Rattle.check_laws.proofs.Flooring.{under-pair}
 use Rattle.check_laws.proofs.Pairing.{joined-is}

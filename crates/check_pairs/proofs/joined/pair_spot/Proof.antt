@@ -1,6 +1,6 @@
 -- `check_pairs::joined::pair_spot` is that of the two rules' clauses.
 use native.Mathlib.Omega.{arith}
-use Rattle.rules.specs.Stretch.{table}
+use Rattle.pack_rules.specs.Stretch.{table}
 use Rattle.check_laws.proofs.Pairing.{pair-is}
 use borrow.Author.Needs.{needs}
 use Rattle.check_pairs.proofs.joined.pair_spot.Statement.{statement}

@@ -3,7 +3,7 @@ use native.Mathlib.Omega.{arith}
 use Prim.Native.Nat.{_-_, min}
 use mathlib.Core.Path.{_≡_, refl, sym, _∙_}
 use Rattle.check_laws.specs.Fast.{fastRank, withEach}
-use Rattle.rules.specs.Stretch.{table, clauseAt, clausesIn}
+use Rattle.pack_rules.specs.Stretch.{table, clauseAt, clausesIn}
 use Rattle.check_laws.specs.Spots.{spotRank, Proper}
 use Rattle.check_laws.proofs.Pairing.{each-more, each-end}
 use borrow.Author.Needs.{needs}

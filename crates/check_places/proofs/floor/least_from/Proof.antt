@@ -1,5 +1,5 @@
 -- `check_places::floor::least_from`: nothing below the floor passes, so the search that starts there finds the same.
-use Rattle.rules.specs.Stretch.{table}
+use Rattle.pack_rules.specs.Stretch.{table}
 use Rattle.check_laws.proofs.Flooring.{least-from, least-past}
 use borrow.Author.Needs.{needs}
 use Rattle.check_places.proofs.floor.least_from.Statement.{statement}

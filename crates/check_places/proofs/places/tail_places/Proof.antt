@@ -9,7 +9,7 @@ use Rattle.decimal.specs.Lists.{all}
 use lib.Dec.{ltb}
 use Prim.Native.Nat.{_^_}
 use Rattle.check_laws.specs.Fast.{settledF}
-use Rattle.rules.specs.Syntax.{Relation}
+use Rattle.pack_rules.specs.Syntax.{Relation}
 use Rattle.check_laws.proofs.Placing.{Before, before-start, before-more, seek-at, seek-none, places-is}
 use Rattle.check_laws.specs.Profile.{Settled}
 use borrow.Author.Needs.{needs}

@@ -1,6 +1,6 @@
 -- `check_plain::search::meets_both` asks the second rule where the first is met.
 use borrow.Author.Tests.{not-true, not-false}
-use Rattle.rules.specs.Stretch.{table}
+use Rattle.pack_rules.specs.Stretch.{table}
 use Rattle.check_plain.proofs.Trying.{first-fails, second-says}
 use borrow.Author.Needs.{needs}
 use Rattle.check_plain.proofs.search.meets_both.Statement.{statement}

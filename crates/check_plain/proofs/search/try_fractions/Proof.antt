@@ -1,7 +1,7 @@
 -- `check_plain::search::try_fractions` tries each f in turn. Invariant: none before passes.
 use native.Mathlib.Omega.{arith}
 use Prim.Native.Nat.{_-_}
-use Rattle.rules.specs.Stretch.{table}
+use Rattle.pack_rules.specs.Stretch.{table}
 use Rattle.check_plain.specs.Search.{meetsBoth, rankAt, NoneIn}
 use Rattle.check_plain.proofs.Trying.{none-start, fractions-more, fractions-found, fractions-none}
 use borrow.Author.Needs.{needs}

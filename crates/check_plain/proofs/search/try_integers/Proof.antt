@@ -1,7 +1,7 @@
 -- `check_plain::search::try_integers` tries each i in turn. Invariant: none before passes.
 use native.Mathlib.Omega.{arith}
 use Prim.Native.Nat.{_-_, _^_, _≤_}
-use Rattle.rules.specs.Stretch.{table}
+use Rattle.pack_rules.specs.Stretch.{table}
 use Rattle.number.specs.Limits.{maxDigits}
 use Rattle.check_laws.specs.Check.{lowest}
 use Rattle.check_plain.specs.Search.{meetsBoth, rankAt, NoneIn}

@@ -1,7 +1,7 @@
 -- `check_relation::relation::holds_of`: the run of a remainder says what the relation says of it.
 use native.Mathlib.Omega.{arith}
 use native.Mathlib.Nat.{mod-le}
-use Rattle.rules.specs.Stretch.{relationBy}
+use Rattle.pack_rules.specs.Stretch.{relationBy}
 use Rattle.check_relation.proofs.Levelling.{listed-test}
 use borrow.Author.Needs.{needs}
 use Rattle.check_relation.proofs.relation.holds_of.Statement.{statement}

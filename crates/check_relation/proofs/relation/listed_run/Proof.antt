@@ -1,6 +1,6 @@
 -- `check_relation::relation::listed_run` turns the answer where the relation is negated.
 use mathlib.Core.Path.{refl}
-use Rattle.rules.specs.Stretch.{rangesIn, relationBy}
+use Rattle.pack_rules.specs.Stretch.{rangesIn, relationBy}
 use Rattle.check_relation.proofs.Levelling.{listed-run}
 use borrow.Author.Needs.{needs}
 use Rattle.check_relation.proofs.relation.listed_run.Statement.{statement}

@@ -2,7 +2,7 @@
 use native.Mathlib.Omega.{arith}
 use mathlib.Core.Path.{_≡_, refl, sym, _∙_}
 use Prim.Native.Nat.{ℕ, _<_}
-use Rattle.rules.specs.Stretch.{relationBy}
+use Rattle.pack_rules.specs.Stretch.{relationBy}
 use Rattle.check_laws.proofs.Searched.{room-factor}
 use Rattle.check_relation.proofs.Levelling.{factor-fits, own-run, tier-level, told-asked}
 use borrow.Author.Needs.{needs}

@@ -1,6 +1,6 @@
 -- `check_relation::relation::passes_of`: what is not asked passes.
 use native.Mathlib.Omega.{arith}
-use Rattle.rules.specs.Stretch.{relationBy}
+use Rattle.pack_rules.specs.Stretch.{relationBy}
 use Rattle.check_laws.proofs.Searched.{room-factor}
 use Rattle.check_relation.proofs.Levelling.{passes-unasked, passes-asked}
 use borrow.Author.Needs.{needs}

@@ -2,7 +2,7 @@
 use native.Mathlib.Omega.{arith}
 use Prim.Native.Nat.{_-_}
 use borrow.Author.Tests.{not-true, not-false}
-use Rattle.rules.specs.Stretch.{table}
+use Rattle.pack_rules.specs.Stretch.{table}
 use Rattle.check_runs.specs.Kept.{Kept, Listed}
 use Rattle.check_runs.proofs.Keeping.{Agreed, agreed-start, agreed-more, agreed-all, digit-says-no, one-says-no}
 use borrow.Author.Needs.{needs}

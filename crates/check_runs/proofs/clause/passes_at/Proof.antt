@@ -1,11 +1,11 @@
 -- `check_runs::clause::passes_at` asks the last digit and each relation. Invariant: x passes all exactly where it passes those left.
-use Rattle.rules.specs.Stretch.{singleAt, relationBy, table}
+use Rattle.pack_rules.specs.Stretch.{singleAt, relationBy, table}
 use native.Mathlib.Omega.{arith}
 use Prim.Native.Nat.{_-_}
 use mathlib.Core.Path.{_≡_, sym, ap, _∙_}
 use borrow.Author.Tests.{not-true, not-false}
-use Rattle.rules.specs.Syntax.{Relation}
-use Rattle.rules.specs.declared.Single.{Single}
+use Rattle.pack_rules.specs.Syntax.{Relation}
+use Rattle.pack_rules.specs.declared.Single.{Single}
 use Rattle.meaning.proofs.Meanings.{all-failed, all-next, all-passed}
 use Rattle.check_laws.specs.Fast.{passes, passesAll}
 use Rattle.check_laws.specs.Read.{joinedIn}

@@ -2,8 +2,8 @@
 use native.Mathlib.Omega.{arith}
 use Prim.Native.Nat.{ℕ}
 use mathlib.Core.Path.{sym, ap, subst, _∙_}
-use Rattle.rules.specs.Stretch.{singleAt, relationBy, table, relationAt}
-use Rattle.rules.specs.declared.Single.{Single}
+use Rattle.pack_rules.specs.Stretch.{singleAt, relationBy, table, relationAt}
+use Rattle.pack_rules.specs.declared.Single.{Single}
 use Rattle.check_laws.specs.Seek.{Alike}
 use Rattle.check_laws.specs.Levels.{ownOne}
 use Rattle.check_relation.specs.Runs.{tier}

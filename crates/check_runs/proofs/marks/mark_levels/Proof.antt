@@ -1,6 +1,6 @@
 -- `check_runs::marks::mark_levels` marks the level of each relation. Invariant: those of the relations so far are marked.
-use Rattle.rules.specs.Stretch.{singleAt, relationBy, table}
-use Rattle.rules.specs.declared.Single.{Single}
+use Rattle.pack_rules.specs.Stretch.{singleAt, relationBy, table}
+use Rattle.pack_rules.specs.declared.Single.{Single}
 use native.Mathlib.Omega.{arith}
 use Prim.Native.Nat.{_-_, _≤_}
 use mathlib.Core.Path.{_≡_, ap, subst, _∙_}

@@ -1,5 +1,5 @@
 -- `check_runs::marks::mark_of` marks the level of a relation that is asked.
-use Rattle.rules.specs.Stretch.{relationBy}
+use Rattle.pack_rules.specs.Stretch.{relationBy}
 use Rattle.check_relation.proofs.Levelling.{factor-fits, tier-unasked, tier-asked}
 use Rattle.check_runs.proofs.Marking.{noted-not, noted-at}
 use borrow.Author.Needs.{needs}

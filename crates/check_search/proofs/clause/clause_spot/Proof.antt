@@ -1,5 +1,5 @@
 -- `check_search::clause::clause_spot`: no e, or the number at the least e.
-use Rattle.rules.specs.Stretch.{table}
+use Rattle.pack_rules.specs.Stretch.{table}
 use Rattle.check_laws.specs.Read.{joinedIn}
 use Rattle.check_laws.specs.Bounded.{bounded}
 use Rattle.check_laws.proofs.Spotting.{clause-none}

@@ -1,6 +1,6 @@
 -- `check_search::clause::integer_of` is a search with the factor 1 for i, and for n where f is 0.
 use mathlib.Core.Path.{_∙_}
-use Rattle.rules.specs.Stretch.{table}
+use Rattle.pack_rules.specs.Stretch.{table}
 use Rattle.check_laws.specs.Read.{joinedIn}
 use Rattle.check_laws.proofs.Flooring.{below-integer}
 use Rattle.check_laws.proofs.Spotting.{low-le, integer-is}

@@ -1,5 +1,5 @@
 -- `check_search::clause::part_spot`: no v or w, no t, no i, no f, or all.
-use Rattle.rules.specs.Stretch.{table}
+use Rattle.pack_rules.specs.Stretch.{table}
 use Rattle.check_laws.specs.Read.{joinedIn}
 use Rattle.check_laws.specs.Bounded.{bounded}
 use mathlib.Core.Path.{refl, _∙_}

@@ -1,5 +1,5 @@
 -- `check_search::clause::spot_at`: only where f is not 0, or where it is 0 and that comes first, or the earlier of both.
-use Rattle.rules.specs.Stretch.{table}
+use Rattle.pack_rules.specs.Stretch.{table}
 use Rattle.check_laws.specs.Read.{joinedIn}
 use Rattle.check_laws.specs.Bounded.{bounded}
 use mathlib.Core.Path.{refl, _∙_}

@@ -1,7 +1,7 @@
 -- `check_table::find::find` looks on until a number is found. Invariant: none before p passes; the runs kept are right.
 use native.Mathlib.Omega.{arith}
 use Prim.Native.Nat.{_≤_, _-_}
-use Rattle.rules.specs.Stretch.{table}
+use Rattle.pack_rules.specs.Stretch.{table}
 use Rattle.check_laws.specs.Levels.{own, below}
 use Rattle.check_laws.specs.Read.{joinedIn}
 use Rattle.check_runs.specs.Kept.{Kept}

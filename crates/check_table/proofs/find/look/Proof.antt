@@ -1,6 +1,6 @@
 -- `check_table::find::look` asks the run of p, and where it holds the levels below.
 use native.Mathlib.Omega.{arith}
-use Rattle.rules.specs.Stretch.{table}
+use Rattle.pack_rules.specs.Stretch.{table}
 use Rattle.check_laws.specs.Levels.{below}
 use Rattle.check_laws.specs.Read.{joinedIn}
 use Rattle.check_laws.proofs.Searched.{room-le}

@@ -1,6 +1,6 @@
 -- `check_table::level::add_level`: the level asks nothing, or has segments, or lets no number pass, or has no room.
 use native.Mathlib.Omega.{arith}
-use Rattle.rules.specs.Stretch.{table}
+use Rattle.pack_rules.specs.Stretch.{table}
 use Rattle.check_laws.specs.Read.{joinedIn}
 use borrow.Author.Tests.{not-true}
 use Rattle.check_table.proofs.Building.{added-free, added-level, added-none, is-full}

@@ -1,7 +1,7 @@
 -- `check_table::level::build` adds the levels in turn. Invariant: those below j stand.
 use native.Mathlib.Omega.{arith}
 use Prim.Native.Nat.{_-_}
-use Rattle.rules.specs.Stretch.{table}
+use Rattle.pack_rules.specs.Stretch.{table}
 use Rattle.check_laws.specs.Read.{joinedIn}
 use Rattle.check_table.proofs.Building.{Building, building-start, building-more, built-empty, built-all, is-full, level-small}
 use borrow.Author.Needs.{needs}

@@ -3,7 +3,7 @@ use native.Mathlib.Omega.{arith}
 use mathlib.Core.Path.{_≡_, refl, sym, ap, _∙_}
 use Prim.Native.Nat.{ℕ, _-_, _≤_, _<_, _^_, min}
 use Rattle.select.proofs.Masks.{mask-none, mask-more, mask-fits}
-use Rattle.rules.specs.Stretch.{stretch, table}
+use Rattle.pack_rules.specs.Stretch.{stretch, table}
 use Rattle.select.specs.Select.{maskOf}
 use Rattle.meaning.specs.Places.{metAt}
 use borrow.Author.Needs.{needs}
