@@ -21,6 +21,7 @@ use Rattle.pack_walk.specs.declared.Closes.{Closes}
 use Rattle.pack_walk.specs.declared.Current.{Current}
 use Rattle.pack_walk.specs.declared.Mark.{Mark}
 use Rattle.pack_walk.specs.declared.Walk.{Walk}
+use Rattle.pack_walk.specs.declared.Turn.{Turn}
 use Rattle.pack_walk.specs.declared.Step.{Step}
 
 -- ---- one token
@@ -150,28 +151,35 @@ markAfter m stop row at =
 
 -- ---- what a token does
 
--- the walk behind a token of the value v, which closes x
-abbrev pub walkAfter : ℕ → Closes → Text → ℕ → List ℕ → Walk → Walk
-walkAfter v x t at keys w =
+abbrev pub turnOf : Current → ℕ → ℕ → Turn
+turnOf o v row = record { current = o; value = v; row = row }
+
+-- by the phase before it
+abbrev pub turnAt : Phase → Text → List ℕ → Counts → Current → Turn
+turnAt p t keys c o =
+    let v = valueAt p t in
+    let key = keyAfter p t (o .key) in
+    turnOf (currentAfter o p t v key) v (rowAt p key (held key (take (c .rules) keys)) v c (o .low))
+
+-- the walk behind a token that changes u and closes x
+abbrev pub walkAfter : Turn → Closes → Text → ℕ → Walk → Walk
+walkAfter u x t at w =
     let p = w .phase in
-    let key = keyAfter p t (w .current .key) in
     record {
       phase = nextPhase p (w .current .other) t;
       counts = countsAfter (w .counts) (samePhase p Value) x;
-      current = currentAfter (w .current) p t v key;
-      mark =
-          markAfter (w .mark) (stopAfter p (w .mark .stop) at)
-          (rowAt p key (held key (take (w .counts .rules) keys)) v (w .counts) (w .current .low)) at;
+      current = u .current;
+      mark = markAfter (w .mark) (stopAfter p (w .mark .stop) at) (u .row) at;
     }
 
 abbrev pub stepAfter : Text → ℕ → List ℕ → Walk → Step
 stepAfter t at keys w =
     let p = w .phase in
-    let v = valueAt p t in
+    let u = turnAt p t keys (w .counts) (w .current) in
     let x = closesAt p t in
     record {
-      walk = walkAfter v x t at keys w;
-      value = v;
+      walk = walkAfter u x t at w;
+      value = u .value;
       closes = x;
       starts = samePhase p Value;
       ends = samePhase p Upper;

@@ -8,7 +8,7 @@ ghost use Rattle.decimal.specs.Choice.{if_then_else_, either};
 ghost use Rattle.pack_token.specs.Spelling.{same};
 ghost use Rattle.pack_grammar.specs.Grammar.{other};
 ghost use Rattle.pack_grammar.specs.Limits.{isModulus};
-ghost use Rattle.pack_walk.specs.Steps.{capped, valueAt, keywordNumber, held, moreIf, closesAt, countsAfter, keyAfter, currentAfter, nameRow, operandRow, valueRow, upperRow, rowAt, stopAfter, markAfter, walkAfter, stepAfter};
+ghost use Rattle.pack_walk.specs.Steps.{capped, keywordNumber, held, moreIf, closesAt, countsAfter, currentAfter, nameRow, operandRow, valueRow, upperRow, stopAfter, markAfter, turnOf, turnAt, walkAfter, stepAfter};
 use decimal::cut::upto;
 use decimal::value::value_of;
 use pack_grammar::MAX_BYTES;
@@ -17,12 +17,10 @@ use pack_grammar::MAX_RANGES;
 use pack_grammar::MAX_RELATIONS;
 use pack_grammar::MAX_VALUE;
 use pack_phase::Phase;
-use pack_phase::has_number;
 use pack_phase::is_and;
 use pack_phase::is_byte;
 use pack_phase::is_closing;
 use pack_phase::is_pair;
-use pack_phase::is_sign;
 use pack_phase::next_phase;
 use pack_phase::same_phase;
 use pack_token::first_byte;
@@ -83,25 +81,21 @@ pub struct Step {
     pub ends: bool,
 }
 
+// What a token changes by its phase: what is being read; its value where the phase has a number next
+// (else 0); its fault, 0 for none.
+pub struct Turn {
+    pub current: Current,
+    pub value: u32,
+    pub row: u8,
+}
+
 fn or_either(a: bool, b: bool) -> bool
     ensures { λ r. ⌜ r ≡ either a b ⌝ }
 {
     if a { true } else { b }
 }
 
-fn pick_test(b: bool, x: bool, y: bool) -> bool
-    ensures { λ r. ⌜ r ≡ (if b then x else y) ⌝ }
-{
-    if b { x } else { y }
-}
-
 fn pick_byte(b: bool, x: u8, y: u8) -> u8
-    ensures { λ r. ⌜ r ≡ (if b then x else y) ⌝ }
-{
-    if b { x } else { y }
-}
-
-fn pick_number(b: bool, x: u32, y: u32) -> u32
     ensures { λ r. ⌜ r ≡ (if b then x else y) ⌝ }
 {
     if b { x } else { y }
@@ -124,16 +118,6 @@ fn capped_value(t: &[u8]) -> u32
     1_000_001
 }
 
-// That value where the phase has a number next, else 0.
-fn value_at(p: Phase, t: &[u8]) -> u32
-    ensures { λ r. ⌜ r ≡ valueAt p (now (t .entry)) ⌝ }
-{
-    if has_number(p) {
-        return capped_value(t);
-    }
-    0
-}
-
 fn number_if(t: &[u8], w: &[u8], n: u8, otherwise: u8) -> u8
     ensures { λ r. ⌜ r ≡ (if same (now (t .entry)) (now (w .entry)) then n else otherwise) ⌝ }
 {
@@ -152,16 +136,6 @@ fn keyword_number(t: &[u8]) -> u8
     let d = number_if(t, b"two", 2, c);
     let e = number_if(t, b"one", 1, d);
     number_if(t, b"zero", 0, e)
-}
-
-// The number of the keyword t where the phase has a keyword next, else the one before.
-fn key_after(p: Phase, t: &[u8], old: u8) -> u8
-    ensures { λ r. ⌜ r ≡ keyAfter p (now (t .entry)) old ⌝ }
-{
-    if same_phase(p, Phase::Name) {
-        return keyword_number(t);
-    }
-    old
 }
 
 // The key is one of the first n.
@@ -197,8 +171,9 @@ fn closes_at(p: Phase, t: &[u8]) -> Closes
     if is_closing(p) {
         let c = is_byte(t, b';');
         let b = or_either(is_pair(t, b'o', b'r'), c);
+        let a = or_either(is_and(t), b);
         return Closes {
-            relation: or_either(is_and(t), b),
+            relation: a,
             clause: b,
             rule: c,
         };
@@ -217,40 +192,27 @@ fn closes_at(p: Phase, t: &[u8]) -> Closes
     }
 }
 
-// The counts behind a token, count by count.
+// The counts behind a token; most tokens close nothing.
 fn counts_after(c: Counts, value: bool, x: Closes) -> Counts
     ensures { λ r. ⌜ r ≡ countsAfter c value x ⌝ }
 {
-    Counts {
-        ranges: more_if(value, c.ranges),
-        relations: more_if(x.relation, c.relations),
-        clauses: more_if(x.clause, c.clauses),
-        rules: more_if(x.rule, c.rules),
-        values: pick_place(x.relation, 0, more_if(value, c.values)),
-        joined: pick_place(x.clause, 0, more_if(x.relation, c.joined)),
-        parted: pick_place(x.rule, 0, more_if(x.clause, c.parted)),
+    let ranges = more_if(value, c.ranges);
+    let values = more_if(value, c.values);
+    if or_either(x.relation, or_either(x.clause, x.rule)) {
+        return Counts {
+            ranges: ranges,
+            relations: more_if(x.relation, c.relations),
+            clauses: more_if(x.clause, c.clauses),
+            rules: more_if(x.rule, c.rules),
+            values: pick_place(x.relation, 0, values),
+            joined: pick_place(x.clause, 0, more_if(x.relation, c.joined)),
+            parted: pick_place(x.rule, 0, more_if(x.clause, c.parted)),
+        };
     }
-}
-
-fn name_row(key: u8, again: bool) -> u8
-    ensures { λ r. ⌜ r ≡ nameRow key again ⌝ }
-{
-    if again {
-        return 25;
-    }
-    if key < 6 {
-        return 0;
-    }
-    25
-}
-
-fn operand_row(clauses: usize, relations: usize) -> u8
-    ensures { λ r. ⌜ r ≡ operandRow clauses relations ⌝ }
-{
-    if clauses < MAX_CLAUSES {
-        return pick_byte(relations < MAX_RELATIONS, 0, 26);
-    }
-    26
+    let mut d = c;
+    d.ranges = ranges;
+    d.values = values;
+    d
 }
 
 fn is_modulus(m: u32) -> bool
@@ -261,46 +223,6 @@ fn is_modulus(m: u32) -> bool
     let c = or_either(m == 1000, b);
     let d = or_either(m == 100, c);
     or_either(m == 10, d)
-}
-
-fn value_row(v: u32, values: usize) -> u8
-    ensures { λ r. ⌜ r ≡ valueRow v values ⌝ }
-{
-    if MAX_VALUE < v {
-        return 22;
-    }
-    pick_byte(values < MAX_RANGES, 0, 26)
-}
-
-fn upper_row(v: u32, low: u32) -> u8
-    ensures { λ r. ⌜ r ≡ upperRow v low ⌝ }
-{
-    if MAX_VALUE < v {
-        return 22;
-    }
-    pick_byte(v < low, 24, 0)
-}
-
-// 22 to 26 of the token, else 0; `keys`: the keyword numbers of the rules so far.
-fn row_at(p: Phase, key: u8, keys: &[u8], v: u32, c: Counts, low: u32) -> u8
-    ensures { λ r. ⌜ r ≡ rowAt p key (held key (take (c .rules) (now (keys .entry)))) v c low ⌝ }
-{
-    if same_phase(p, Phase::Name) {
-        return name_row(key, held_before(keys, c.rules, key));
-    }
-    if same_phase(p, Phase::Operand) {
-        return operand_row(c.parted, c.joined);
-    }
-    if same_phase(p, Phase::Modulus) {
-        return pick_byte(is_modulus(v), 0, 23);
-    }
-    if same_phase(p, Phase::Value) {
-        return value_row(v, c.values);
-    }
-    if same_phase(p, Phase::Upper) {
-        return upper_row(v, low);
-    }
-    0
 }
 
 // The place of the last token before nothing could follow, and the first fault.
@@ -328,40 +250,146 @@ fn is_other(t: &[u8]) -> bool
     same_text(t, b"other")
 }
 
-// What is being read behind the token t of the value v.
-fn current_after(o: Current, p: Phase, t: &[u8], v: u32) -> Current
-    ensures { λ r. ⌜ r ≡ currentAfter o p (now (t .entry)) v (keyAfter p (now (t .entry)) (o .key)) ⌝ }
+// What is being read, but for whether the token is `other`.
+fn kept(o: Current, t: &[u8]) -> Current
+    ensures { λ r. ⌜ r ≡ currentAfter o Phase.Colon (now (t .entry)) 0 (o .key) ⌝ }
 {
-    let operand = same_phase(p, Phase::Operand);
-    Current {
-        key: key_after(p, t, o.key),
-        operand: pick_byte(operand, first_byte(t), o.operand),
-        modulus: pick_number(
-            operand,
-            0,
-            pick_number(same_phase(p, Phase::Modulus), v, o.modulus),
-        ),
-        negated: pick_test(is_sign(p), is_pair(t, b'!', b'='), o.negated),
-        low: pick_number(same_phase(p, Phase::Value), v, o.low),
-        other: is_other(t),
+    let mut d = o;
+    d.other = is_other(t);
+    d
+}
+
+// ---- What the token t changes, by the phase before it.
+
+// `keys`: the keyword numbers of the rules so far, of which the first n count.
+fn turn_name(t: &[u8], keys: &[u8], n: usize, o: Current) -> Turn
+    ensures { λ r. ⌜ r ≡ turnOf (currentAfter o Phase.Name (now (t .entry)) 0 (keywordNumber (now (t .entry)))) 0 (nameRow (keywordNumber (now (t .entry))) (held (keywordNumber (now (t .entry))) (take n (now (keys .entry))))) ⌝ }
+{
+    let key = keyword_number(t);
+    let mut d = kept(o, t);
+    d.key = key;
+    Turn {
+        current: d,
+        value: 0,
+        row: pick_byte(held_before(keys, n, key), 25, pick_byte(key < 6, 0, 25)),
     }
 }
 
-// The walk behind a token of the value v, which closes x.
-fn walk_after(v: u32, x: Closes, t: &[u8], at: usize, keys: &[u8], w: Walk) -> Walk
-    ensures { λ r. ⌜ r ≡ walkAfter v x (now (t .entry)) at (now (keys .entry)) w ⌝ }
+// So many clauses and relations are before the operand.
+fn turn_operand(t: &[u8], clauses: usize, relations: usize, o: Current) -> Turn
+    ensures { λ r. ⌜ r ≡ turnOf (currentAfter o Phase.Operand (now (t .entry)) 0 (o .key)) 0 (operandRow clauses relations) ⌝ }
+{
+    let mut d = kept(o, t);
+    d.operand = first_byte(t);
+    d.modulus = 0;
+    Turn {
+        current: d,
+        value: 0,
+        row: pick_byte(
+            clauses < MAX_CLAUSES,
+            pick_byte(relations < MAX_RELATIONS, 0, 26),
+            26,
+        ),
+    }
+}
+
+fn turn_sign(t: &[u8], o: Current) -> Turn
+    ensures { λ r. ⌜ r ≡ turnOf (currentAfter o Phase.Sign (now (t .entry)) 0 (o .key)) 0 0 ⌝ }
+{
+    let mut d = kept(o, t);
+    d.negated = is_pair(t, b'!', b'=');
+    Turn {
+        current: d,
+        value: 0,
+        row: 0,
+    }
+}
+
+fn turn_modulus(t: &[u8], o: Current) -> Turn
+    ensures { λ r. ⌜ r ≡ turnOf (currentAfter o Phase.Modulus (now (t .entry)) (capped (now (t .entry))) (o .key)) (capped (now (t .entry))) (if isModulus (capped (now (t .entry))) then 0 else 23) ⌝ }
+{
+    let v = capped_value(t);
+    let mut d = kept(o, t);
+    d.modulus = v;
+    Turn {
+        current: d,
+        value: v,
+        row: pick_byte(is_modulus(v), 0, 23),
+    }
+}
+
+// So many values are before this one.
+fn turn_value(t: &[u8], values: usize, o: Current) -> Turn
+    ensures { λ r. ⌜ r ≡ turnOf (currentAfter o Phase.Value (now (t .entry)) (capped (now (t .entry))) (o .key)) (capped (now (t .entry))) (valueRow (capped (now (t .entry))) values) ⌝ }
+{
+    let v = capped_value(t);
+    let mut d = kept(o, t);
+    d.low = v;
+    Turn {
+        current: d,
+        value: v,
+        row: pick_byte(MAX_VALUE < v, 22, pick_byte(values < MAX_RANGES, 0, 26)),
+    }
+}
+
+// The upper end of a range.
+fn turn_upper(t: &[u8], o: Current) -> Turn
+    ensures { λ r. ⌜ r ≡ turnOf (currentAfter o Phase.Upper (now (t .entry)) (capped (now (t .entry))) (o .key)) (capped (now (t .entry))) (upperRow (capped (now (t .entry))) (o .low)) ⌝ }
+{
+    let v = capped_value(t);
+    Turn {
+        current: kept(o, t),
+        value: v,
+        row: pick_byte(MAX_VALUE < v, 22, pick_byte(v < o.low, 24, 0)),
+    }
+}
+
+// By the phase p before the token.
+fn turn_at(p: Phase, t: &[u8], keys: &[u8], c: Counts, o: Current) -> Turn
+    ensures { λ r. ⌜ r ≡ turnAt p (now (t .entry)) (now (keys .entry)) c o ⌝ }
+{
+    if same_phase(p, Phase::Name) {
+        return turn_name(t, keys, c.rules, o);
+    }
+    if same_phase(p, Phase::Operand) {
+        return turn_operand(t, c.parted, c.joined, o);
+    }
+    if same_phase(p, Phase::ModulusOrSign) {
+        return turn_sign(t, o);
+    }
+    if same_phase(p, Phase::Modulus) {
+        return turn_modulus(t, o);
+    }
+    if same_phase(p, Phase::Sign) {
+        return turn_sign(t, o);
+    }
+    if same_phase(p, Phase::Value) {
+        return turn_value(t, c.values, o);
+    }
+    if same_phase(p, Phase::Upper) {
+        return turn_upper(t, o);
+    }
+    Turn {
+        current: kept(o, t),
+        value: 0,
+        row: 0,
+    }
+}
+
+// The walk behind a token that changes u and closes x.
+fn walk_after(u: Turn, x: Closes, t: &[u8], at: usize, w: Walk) -> Walk
+    ensures { λ r. ⌜ r ≡ walkAfter u x (now (t .entry)) at w ⌝ }
 {
     let p = w.phase;
     let c = w.counts;
     let o = w.current;
     let m = w.mark;
-    let d = current_after(o, p, t, v);
-    let row = row_at(p, d.key, keys, v, c, o.low);
+    let d = u.current;
     Walk {
         phase: next_phase(p, o.other, t),
         counts: counts_after(c, same_phase(p, Phase::Value), x),
         current: d,
-        mark: mark_after(p, m, row, at),
+        mark: mark_after(p, m, u.row, at),
     }
 }
 
@@ -370,11 +398,13 @@ pub fn step_after(t: &[u8], at: usize, keys: &[u8], w: Walk) -> Step
     ensures { λ r. ⌜ r ≡ stepAfter (now (t .entry)) at (now (keys .entry)) w ⌝ }
 {
     let p = w.phase;
-    let v = value_at(p, t);
+    let c = w.counts;
+    let o = w.current;
+    let u = turn_at(p, t, keys, c, o);
     let x = closes_at(p, t);
     Step {
-        walk: walk_after(v, x, t, at, keys, w),
-        value: v,
+        walk: walk_after(u, x, t, at, w),
+        value: u.value,
         closes: x,
         starts: same_phase(p, Phase::Value),
         ends: same_phase(p, Phase::Upper),

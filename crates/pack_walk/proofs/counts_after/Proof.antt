@@ -1,4 +1,6 @@
--- `counts_after` is the definition, field by field.
+-- `counts_after` is the definition, field by field; where nothing is closed, most fields stay.
+use mathlib.Core.Path.{sym, _∙_}
+use Rattle.pack_walk.proofs.Counted.{open-counts}
 use borrow.Author.Needs.{needs}
 use Rattle.pack_walk.proofs.counts_after.Statement.{statement}
 use Rattle.pack_walk.proofs.counts_after.Tie as tie
@@ -8,6 +10,12 @@ more-if-requires c κs = search needs
 
 more-if-requires-2 : tie.Need-more-if-requires-2
 more-if-requires-2 c κs = search needs
+
+or-either-requires : tie.Need-or-either-requires
+or-either-requires c κs = search needs
+
+or-either-requires-2 : tie.Need-or-either-requires-2
+or-either-requires-2 c κs = search needs
 
 more-if-requires-3 : tie.Need-more-if-requires-3
 more-if-requires-3 c κs = search needs
@@ -34,7 +42,10 @@ pick-place-requires-3 : tie.Need-pick-place-requires-3
 pick-place-requires-3 c κs = search needs
 
 returns : tie.Need-returns
-returns c = simp (c .pick-place3 .ensures, c .before .more-if7 .ensures, c .before .before .pick-place2 .ensures, c .before .before .before .more-if6 .ensures, c .before .before .before .before .pick-place .ensures, c .before .before .before .before .before .more-if5 .ensures, c .before .before .before .before .before .before .more-if4 .ensures, c .before .before .before .before .before .before .before .more-if3 .ensures, c .before .before .before .before .before .before .before .before .more-if2 .ensures, c .before .before .before .before .before .before .before .before .before .more-if .ensures)
+returns c = simp (c .pick-place3 .ensures, c .before .more-if7 .ensures, c .before .before .pick-place2 .ensures, c .before .before .before .more-if6 .ensures, c .before .before .before .before .pick-place .ensures, c .before .before .before .before .before .more-if5 .ensures, c .before .before .before .before .before .before .more-if4 .ensures, c .before .before .before .before .before .before .before .more-if3 .ensures, c .before .before .before .before .before .before .before .before .before .before .before .more-if2 .ensures, c .before .before .before .before .before .before .before .before .before .before .before .before .more-if .ensures)
+
+returns-2 : tie.Need-returns-2
+returns-2 c = rw (c .before .before .before .more-if2 .ensures, c .before .before .before .before .more-if .ensures) (open-counts (c .before .before .before .before .before .args .c) (c .before .before .before .before .before .args .value) (c .before .before .before .before .before .args .x) (sym (c .before .or-either2 .ensures ∙ rw (c .before .before .or-either .ensures)) ∙ c .if1 .left))
 
 pub counts-after-spec : {M : Type 1} → statement M
 counts-after-spec =
@@ -42,6 +53,8 @@ counts-after-spec =
     (tie.spec
     more-if-requires
     more-if-requires-2
+    or-either-requires
+    or-either-requires-2
     more-if-requires-3
     more-if-requires-4
     more-if-requires-5
@@ -50,4 +63,5 @@ counts-after-spec =
     pick-place-requires-2
     more-if-requires-7
     pick-place-requires-3
-    returns)
+    returns
+    returns-2)

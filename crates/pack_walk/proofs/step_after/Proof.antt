@@ -3,8 +3,8 @@ use borrow.Author.Needs.{needs}
 use Rattle.pack_walk.proofs.step_after.Statement.{statement}
 use Rattle.pack_walk.proofs.step_after.Tie as tie
 
-value-at-requires : tie.Need-value-at-requires
-value-at-requires c κs = search needs
+turn-at-requires : tie.Need-turn-at-requires
+turn-at-requires c κs = search needs
 
 closes-at-requires : tie.Need-closes-at-requires
 closes-at-requires c κs = search needs
@@ -19,13 +19,13 @@ same-phase-requires-2 : tie.Need-same-phase-requires-2
 same-phase-requires-2 c κs = search needs
 
 returns : tie.Need-returns
-returns c = rw (c .same-phase2 .ensures, c .before .same-phase .ensures, c .before .before .walk-after .ensures, c .before .before .before .closes-at .ensures, c .before .before .before .before .value-at .ensures)
+returns c = rw (c .same-phase2 .ensures, c .before .same-phase .ensures, c .before .before .walk-after .ensures, c .before .before .before .closes-at .ensures, c .before .before .before .before .turn-at .ensures)
 
 pub step-after-spec : {M : Type 1} → statement M
 step-after-spec =
     tie.close
     (tie.spec
-    value-at-requires
+    turn-at-requires
     closes-at-requires
     walk-after-requires
     same-phase-requires

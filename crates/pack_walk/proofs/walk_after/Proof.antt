@@ -3,12 +3,6 @@ use borrow.Author.Needs.{needs}
 use Rattle.pack_walk.proofs.walk_after.Statement.{statement}
 use Rattle.pack_walk.proofs.walk_after.Tie as tie
 
-current-after-requires : tie.Need-current-after-requires
-current-after-requires c κs = search needs
-
-row-at-requires : tie.Need-row-at-requires
-row-at-requires c κs = search needs
-
 next-phase-requires : tie.Need-next-phase-requires
 next-phase-requires c κs = search needs
 
@@ -22,14 +16,12 @@ mark-after-requires : tie.Need-mark-after-requires
 mark-after-requires c κs = search needs
 
 returns : tie.Need-returns
-returns c = rw (c .mark-after .ensures, c .before .counts-after .ensures, c .before .before .same-phase .ensures, c .before .before .before .next-phase .ensures, c .before .before .before .before .row-at .ensures, c .before .before .before .before .before .current-after .ensures)
+returns c = rw (c .mark-after .ensures, c .before .counts-after .ensures, c .before .before .same-phase .ensures, c .before .before .before .next-phase .ensures)
 
 pub walk-after-spec : {M : Type 1} → statement M
 walk-after-spec =
     tie.close
     (tie.spec
-    current-after-requires
-    row-at-requires
     next-phase-requires
     same-phase-requires
     counts-after-requires
