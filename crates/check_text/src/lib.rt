@@ -1,5 +1,5 @@
 // Checks a pack text: passed, or refusals 20 to 26, or 27 with the first two rules that one admitted
-// number meets and the least such number.
+// number meets and the least such number. The entry is check.
 ghost use mathlib.Core.Path.{_≡_};
 ghost use Rattle.check_text.specs.Check.{checkedBy, checkPack};
 use answer::Refusal;

@@ -7,7 +7,7 @@ ghost use mathlib.Core.List.{[], _∷_};
 ghost use Rattle.decimal.specs.Choice.{if_then_else_};
 ghost use Rattle.pack_token.specs.Spelling.{same};
 ghost use Rattle.pack_grammar.specs.Grammar.{and, isWord, isNumber, isOperand};
-ghost use Rattle.pack_phase.specs.Next.{afterSign, afterRelation, nextPhase, phaseNumber, samePhase, hasNumber, isSign, isClosing};
+ghost use Rattle.pack_phase.specs.Next.{afterSign, afterRelation, nextPhase, phaseNumber, samePhase};
 use decimal::cut::after;
 use decimal::scan::is_digit;
 use pack_token::first_byte;
@@ -45,7 +45,7 @@ fn is_number(t: &[u8]) -> bool
 }
 
 // The text t is the one byte b.
-pub fn is_byte(t: &[u8], b: u8) -> bool
+fn is_byte(t: &[u8], b: u8) -> bool
     ensures { λ r. ⌜ r ≡ same (now (t .entry)) (b ∷ []) ⌝ }
 {
     if t.len() == 1 {
@@ -55,7 +55,7 @@ pub fn is_byte(t: &[u8], b: u8) -> bool
 }
 
 // The text t is the two bytes a and b.
-pub fn is_pair(t: &[u8], a: u8, b: u8) -> bool
+fn is_pair(t: &[u8], a: u8, b: u8) -> bool
     ensures { λ r. ⌜ r ≡ same (now (t .entry)) (a ∷ b ∷ []) ⌝ }
 {
     if first_byte(t) == a {
@@ -64,7 +64,7 @@ pub fn is_pair(t: &[u8], a: u8, b: u8) -> bool
     false
 }
 
-pub fn is_and(t: &[u8]) -> bool
+fn is_and(t: &[u8]) -> bool
     ensures { λ r. ⌜ r ≡ same (now (t .entry)) and ⌝ }
 {
     same_text(t, b"and")
@@ -200,37 +200,4 @@ pub fn same_phase(p: Phase, q: Phase) -> bool
     ensures { λ r. ⌜ r ≡ samePhase p q ⌝ }
 {
     number(p) == number(q)
-}
-
-// Whether a number is next: a modulus, a value or the upper end of a range.
-pub fn has_number(p: Phase) -> bool
-    ensures { λ r. ⌜ r ≡ hasNumber p ⌝ }
-{
-    if same_phase(p, Phase::Modulus) {
-        return true;
-    }
-    if same_phase(p, Phase::Value) {
-        return true;
-    }
-    same_phase(p, Phase::Upper)
-}
-
-// Whether a sign may be next.
-pub fn is_sign(p: Phase) -> bool
-    ensures { λ r. ⌜ r ≡ isSign p ⌝ }
-{
-    if same_phase(p, Phase::ModulusOrSign) {
-        return true;
-    }
-    same_phase(p, Phase::Sign)
-}
-
-// Whether a relation may end: behind a value or a range.
-pub fn is_closing(p: Phase) -> bool
-    ensures { λ r. ⌜ r ≡ isClosing p ⌝ }
-{
-    if same_phase(p, Phase::DotsOrMore) {
-        return true;
-    }
-    same_phase(p, Phase::More)
 }

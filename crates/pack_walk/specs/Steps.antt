@@ -21,7 +21,6 @@ use Rattle.pack_walk.specs.declared.Closes.{Closes}
 use Rattle.pack_walk.specs.declared.Current.{Current}
 use Rattle.pack_walk.specs.declared.Mark.{Mark}
 use Rattle.pack_walk.specs.declared.Walk.{Walk}
-use Rattle.pack_walk.specs.declared.Turn.{Turn}
 use Rattle.pack_walk.specs.declared.Step.{Step}
 
 -- ---- one token
@@ -149,38 +148,28 @@ markAfter m stop row at =
       place = if eqb (m .row) 0 then at else m .place;
     }
 
--- ---- what a token does
+-- ---- what a token does in the phase p, closing x and before the phase q
 
-abbrev pub turnOf : Current → ℕ → ℕ → Turn
-turnOf o v row = record { current = o; value = v; row = row }
-
--- by the phase before it
-abbrev pub turnAt : Phase → Text → List ℕ → Counts → Current → Turn
-turnAt p t keys c o =
+abbrev pub stepBy : Phase → Closes → Phase → Text → ℕ → List ℕ → Walk → Step
+stepBy p x q t at keys w =
     let v = valueAt p t in
-    let key = keyAfter p t (o .key) in
-    turnOf (currentAfter o p t v key) v (rowAt p key (held key (take (c .rules) keys)) v c (o .low))
-
--- the walk behind a token that changes u and closes x
-abbrev pub walkAfter : Turn → Closes → Text → ℕ → Walk → Walk
-walkAfter u x t at w =
-    let p = w .phase in
+    let key = keyAfter p t (w .current .key) in
     record {
-      phase = nextPhase p (w .current .other) t;
-      counts = countsAfter (w .counts) (samePhase p Value) x;
-      current = u .current;
-      mark = markAfter (w .mark) (stopAfter p (w .mark .stop) at) (u .row) at;
+      walk = record {
+        phase = q;
+        counts = countsAfter (w .counts) (samePhase p Value) x;
+        current = currentAfter (w .current) p t v key;
+        mark =
+            markAfter (w .mark) (stopAfter p (w .mark .stop) at)
+            (rowAt p key (held key (take (w .counts .rules) keys)) v (w .counts) (w .current .low)) at;
+      };
+      value = v;
+      closes = x;
+      starts = samePhase p Value;
+      ends = samePhase p Upper;
     }
 
 abbrev pub stepAfter : Text → ℕ → List ℕ → Walk → Step
 stepAfter t at keys w =
     let p = w .phase in
-    let u = turnAt p t keys (w .counts) (w .current) in
-    let x = closesAt p t in
-    record {
-      walk = walkAfter u x t at w;
-      value = u .value;
-      closes = x;
-      starts = samePhase p Value;
-      ends = samePhase p Upper;
-    }
+    stepBy p (closesAt p t) (nextPhase p (w .current .other) t) t at keys w

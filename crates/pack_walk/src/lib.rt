@@ -3,12 +3,13 @@
 //
 // specs/Steps.antt has the change as definitions; the functions are those. Every function is total.
 ghost use mathlib.Core.Path.{_≡_};
+ghost use mathlib.Core.List.{[]};
 ghost use lib.ListN.{take};
 ghost use Rattle.decimal.specs.Choice.{if_then_else_, either};
 ghost use Rattle.pack_token.specs.Spelling.{same};
 ghost use Rattle.pack_grammar.specs.Grammar.{other};
 ghost use Rattle.pack_grammar.specs.Limits.{isModulus};
-ghost use Rattle.pack_walk.specs.Steps.{capped, keywordNumber, held, moreIf, closesAt, countsAfter, currentAfter, nameRow, operandRow, valueRow, upperRow, stopAfter, markAfter, turnOf, turnAt, walkAfter, stepAfter};
+ghost use Rattle.pack_walk.specs.Steps.{capped, keywordNumber, held, moreOf, moreIf, zeroIf, nothing, endsBare, endsRelation, countsAfter, currentAfter, nameRow, operandRow, valueRow, upperRow, markAfter, stepBy, stepAfter};
 use decimal::cut::upto;
 use decimal::value::value_of;
 use pack_grammar::MAX_BYTES;
@@ -17,12 +18,7 @@ use pack_grammar::MAX_RANGES;
 use pack_grammar::MAX_RELATIONS;
 use pack_grammar::MAX_VALUE;
 use pack_phase::Phase;
-use pack_phase::is_and;
-use pack_phase::is_byte;
-use pack_phase::is_closing;
-use pack_phase::is_pair;
 use pack_phase::next_phase;
-use pack_phase::same_phase;
 use pack_token::first_byte;
 use pack_token::same_text;
 
@@ -81,14 +77,6 @@ pub struct Step {
     pub ends: bool,
 }
 
-// What a token changes by its phase: what is being read; its value where the phase has a number next
-// (else 0); its fault, 0 for none.
-pub struct Turn {
-    pub current: Current,
-    pub value: u32,
-    pub row: u8,
-}
-
 fn or_either(a: bool, b: bool) -> bool
     ensures { λ r. ⌜ r ≡ either a b ⌝ }
 {
@@ -108,7 +96,7 @@ fn pick_place(b: bool, x: usize, y: usize) -> usize
 }
 
 // The value of the token, exact up to 1,000,000.
-fn capped_value(t: &[u8]) -> u32
+pub fn capped_value(t: &[u8]) -> u32
     ensures { λ r. ⌜ r ≡ capped (now (t .entry)) ⌝ }
 {
     let v = value_of(t);
@@ -153,38 +141,33 @@ fn held_before(keys: &[u8], n: usize, key: u8) -> bool
     false
 }
 
-fn more_if(b: bool, n: usize) -> usize
-    ensures { λ r. ⌜ r ≡ moreIf b n ⌝ }
+fn more(n: usize) -> usize
+    ensures { λ r. ⌜ r ≡ moreOf n ⌝ }
 {
-    if b {
-        if n < MAX_BYTES {
-            return n + 1;
-        }
+    if n < MAX_BYTES {
+        return n + 1;
     }
     n
 }
 
-// What a token closes.
-fn closes_at(p: Phase, t: &[u8]) -> Closes
-    ensures { λ r. ⌜ r ≡ closesAt p (now (t .entry)) ⌝ }
+fn more_if(b: bool, n: usize) -> usize
+    ensures { λ r. ⌜ r ≡ moreIf b n ⌝ }
 {
-    if is_closing(p) {
-        let c = is_byte(t, b';');
-        let b = or_either(is_pair(t, b'o', b'r'), c);
-        let a = or_either(is_and(t), b);
-        return Closes {
-            relation: a,
-            clause: b,
-            rule: c,
-        };
+    if b {
+        return more(n);
     }
-    if same_phase(p, Phase::Nothing) {
-        return Closes {
-            relation: false,
-            clause: false,
-            rule: is_byte(t, b';'),
-        };
-    }
+    n
+}
+
+fn zero_if(b: bool, n: usize) -> usize
+    ensures { λ r. ⌜ r ≡ zeroIf b n ⌝ }
+{
+    if b { 0 } else { n }
+}
+
+fn none() -> Closes
+    ensures { λ r. ⌜ r ≡ nothing ⌝ }
+{
     Closes {
         relation: false,
         clause: false,
@@ -192,27 +175,65 @@ fn closes_at(p: Phase, t: &[u8]) -> Closes
     }
 }
 
-// The counts behind a token; most tokens close nothing.
-fn counts_after(c: Counts, value: bool, x: Closes) -> Counts
+// What a token closes behind `other:`.
+fn ends_bare(t: &[u8]) -> Closes
+    ensures { λ r. ⌜ r ≡ endsBare (now (t .entry)) ⌝ }
+{
+    Closes {
+        relation: false,
+        clause: false,
+        rule: same_text(t, b";"),
+    }
+}
+
+// What a token closes behind a value or range.
+fn ends_relation(t: &[u8]) -> Closes
+    ensures { λ r. ⌜ r ≡ endsRelation (now (t .entry)) ⌝ }
+{
+    let c = same_text(t, b";");
+    let b = or_either(same_text(t, b"or"), c);
+    let a = or_either(same_text(t, b"and"), b);
+    Closes {
+        relation: a,
+        clause: b,
+        rule: c,
+    }
+}
+
+// The counts behind a token, count by count.
+fn counts_each(c: Counts, value: bool, x: Closes) -> Counts
     ensures { λ r. ⌜ r ≡ countsAfter c value x ⌝ }
 {
-    let ranges = more_if(value, c.ranges);
-    let values = more_if(value, c.values);
-    if or_either(x.relation, or_either(x.clause, x.rule)) {
-        return Counts {
-            ranges: ranges,
-            relations: more_if(x.relation, c.relations),
-            clauses: more_if(x.clause, c.clauses),
-            rules: more_if(x.rule, c.rules),
-            values: pick_place(x.relation, 0, values),
-            joined: pick_place(x.clause, 0, more_if(x.relation, c.joined)),
-            parted: pick_place(x.rule, 0, more_if(x.clause, c.parted)),
-        };
+    Counts {
+        ranges: more_if(value, c.ranges),
+        relations: more_if(x.relation, c.relations),
+        clauses: more_if(x.clause, c.clauses),
+        rules: more_if(x.rule, c.rules),
+        values: zero_if(x.relation, more_if(value, c.values)),
+        joined: zero_if(x.clause, more_if(x.relation, c.joined)),
+        parted: zero_if(x.rule, more_if(x.clause, c.parted)),
     }
-    let mut d = c;
-    d.ranges = ranges;
-    d.values = values;
-    d
+}
+
+fn name_row(key: u8, again: bool) -> u8
+    ensures { λ r. ⌜ r ≡ nameRow key again ⌝ }
+{
+    if again {
+        return 25;
+    }
+    if key < 6 {
+        return 0;
+    }
+    25
+}
+
+fn operand_row(clauses: usize, relations: usize) -> u8
+    ensures { λ r. ⌜ r ≡ operandRow clauses relations ⌝ }
+{
+    if clauses < MAX_CLAUSES {
+        return pick_byte(relations < MAX_RELATIONS, 0, 26);
+    }
+    26
 }
 
 fn is_modulus(m: u32) -> bool
@@ -225,22 +246,31 @@ fn is_modulus(m: u32) -> bool
     or_either(m == 10, d)
 }
 
-// The place of the last token before nothing could follow, and the first fault.
-fn mark_after(p: Phase, m: Mark, row: u8, at: usize) -> Mark
-    ensures { λ r. ⌜ r ≡ markAfter m (stopAfter p (m .stop) at) row at ⌝ }
+fn value_row(v: u32, values: usize) -> u8
+    ensures { λ r. ⌜ r ≡ valueRow v values ⌝ }
 {
-    let stop = pick_place(same_phase(p, Phase::Dead), m.stop, at);
-    if m.row == 0 {
-        return Mark {
-            stop: stop,
-            row: row,
-            place: at,
-        };
+    if MAX_VALUE < v {
+        return 22;
     }
+    pick_byte(values < MAX_RANGES, 0, 26)
+}
+
+fn upper_row(v: u32, low: u32) -> u8
+    ensures { λ r. ⌜ r ≡ upperRow v low ⌝ }
+{
+    if MAX_VALUE < v {
+        return 22;
+    }
+    pick_byte(v < low, 24, 0)
+}
+
+fn mark_after(m: Mark, stop: usize, row: u8, at: usize) -> Mark
+    ensures { λ r. ⌜ r ≡ markAfter m stop row at ⌝ }
+{
     Mark {
         stop: stop,
-        row: m.row,
-        place: m.place,
+        row: pick_byte(m.row == 0, row, m.row),
+        place: pick_place(m.row == 0, at, m.place),
     }
 }
 
@@ -254,142 +284,240 @@ fn is_other(t: &[u8]) -> bool
 fn kept(o: Current, t: &[u8]) -> Current
     ensures { λ r. ⌜ r ≡ currentAfter o Phase.Colon (now (t .entry)) 0 (o .key) ⌝ }
 {
-    let mut d = o;
-    d.other = is_other(t);
-    d
+    Current {
+        key: o.key,
+        operand: o.operand,
+        modulus: o.modulus,
+        negated: o.negated,
+        low: o.low,
+        other: is_other(t),
+    }
 }
 
-// ---- What the token t changes, by the phase before it.
-
-// `keys`: the keyword numbers of the rules so far, of which the first n count.
-fn turn_name(t: &[u8], keys: &[u8], n: usize, o: Current) -> Turn
-    ensures { λ r. ⌜ r ≡ turnOf (currentAfter o Phase.Name (now (t .entry)) 0 (keywordNumber (now (t .entry)))) 0 (nameRow (keywordNumber (now (t .entry))) (held (keywordNumber (now (t .entry))) (take n (now (keys .entry))))) ⌝ }
+// A keyword; `keys`: the keyword numbers of the rules so far.
+fn at_name(q: Phase, t: &[u8], at: usize, keys: &[u8], w: Walk) -> Step
+    ensures { λ r. ⌜ r ≡ stepBy Phase.Name nothing q (now (t .entry)) at (now (keys .entry)) w ⌝ }
 {
+    let c = w.counts;
+    let o = w.current;
+    let m = w.mark;
     let key = keyword_number(t);
-    let mut d = kept(o, t);
-    d.key = key;
-    Turn {
-        current: d,
+    let again = held_before(keys, c.rules, key);
+    Step {
+        walk: Walk {
+            phase: q,
+            counts: c,
+            current: Current {
+                key: key,
+                operand: o.operand,
+                modulus: o.modulus,
+                negated: o.negated,
+                low: o.low,
+                other: is_other(t),
+            },
+            mark: mark_after(m, at, name_row(key, again), at),
+        },
         value: 0,
-        row: pick_byte(held_before(keys, n, key), 25, pick_byte(key < 6, 0, 25)),
+        closes: none(),
+        starts: false,
+        ends: false,
     }
 }
 
-// So many clauses and relations are before the operand.
-fn turn_operand(t: &[u8], clauses: usize, relations: usize, o: Current) -> Turn
-    ensures { λ r. ⌜ r ≡ turnOf (currentAfter o Phase.Operand (now (t .entry)) 0 (o .key)) 0 (operandRow clauses relations) ⌝ }
+// `:`, which changes nothing but the phase.
+fn at_colon(q: Phase, t: &[u8], at: usize, w: Walk) -> Step
+    ensures { λ r. ⌜ r ≡ stepBy Phase.Colon nothing q (now (t .entry)) at [] w ⌝ }
 {
-    let mut d = kept(o, t);
-    d.operand = first_byte(t);
-    d.modulus = 0;
-    Turn {
-        current: d,
+    let c = w.counts;
+    let o = w.current;
+    let m = w.mark;
+    Step {
+        walk: Walk {
+            phase: q,
+            counts: c,
+            current: kept(o, t),
+            mark: mark_after(m, at, 0, at),
+        },
         value: 0,
-        row: pick_byte(
-            clauses < MAX_CLAUSES,
-            pick_byte(relations < MAX_RELATIONS, 0, 26),
-            26,
-        ),
+        closes: none(),
+        starts: false,
+        ends: false,
     }
 }
 
-fn turn_sign(t: &[u8], o: Current) -> Turn
-    ensures { λ r. ⌜ r ≡ turnOf (currentAfter o Phase.Sign (now (t .entry)) 0 (o .key)) 0 0 ⌝ }
+fn at_operand(q: Phase, t: &[u8], at: usize, w: Walk) -> Step
+    ensures { λ r. ⌜ r ≡ stepBy Phase.Operand nothing q (now (t .entry)) at [] w ⌝ }
 {
-    let mut d = kept(o, t);
-    d.negated = is_pair(t, b'!', b'=');
-    Turn {
-        current: d,
+    let c = w.counts;
+    let o = w.current;
+    let m = w.mark;
+    Step {
+        walk: Walk {
+            phase: q,
+            counts: c,
+            current: Current {
+                key: o.key,
+                operand: first_byte(t),
+                modulus: 0,
+                negated: o.negated,
+                low: o.low,
+                other: is_other(t),
+            },
+            mark: mark_after(m, at, operand_row(c.parted, c.joined), at),
+        },
         value: 0,
-        row: 0,
+        closes: none(),
+        starts: false,
+        ends: false,
     }
 }
 
-fn turn_modulus(t: &[u8], o: Current) -> Turn
-    ensures { λ r. ⌜ r ≡ turnOf (currentAfter o Phase.Modulus (now (t .entry)) (capped (now (t .entry))) (o .key)) (capped (now (t .entry))) (if isModulus (capped (now (t .entry))) then 0 else 23) ⌝ }
+// `%`, `=` or `!=`.
+fn at_sign(q: Phase, t: &[u8], at: usize, w: Walk) -> Step
+    ensures { λ r. ⌜ r ≡ stepBy Phase.ModulusOrSign nothing q (now (t .entry)) at [] w ⌝ }
 {
+    let c = w.counts;
+    let o = w.current;
+    let m = w.mark;
+    Step {
+        walk: Walk {
+            phase: q,
+            counts: c,
+            current: Current {
+                key: o.key,
+                operand: o.operand,
+                modulus: o.modulus,
+                negated: same_text(t, b"!="),
+                low: o.low,
+                other: is_other(t),
+            },
+            mark: mark_after(m, at, 0, at),
+        },
+        value: 0,
+        closes: none(),
+        starts: false,
+        ends: false,
+    }
+}
+
+fn at_modulus(q: Phase, t: &[u8], at: usize, w: Walk) -> Step
+    ensures { λ r. ⌜ r ≡ stepBy Phase.Modulus nothing q (now (t .entry)) at [] w ⌝ }
+{
+    let c = w.counts;
+    let o = w.current;
+    let m = w.mark;
     let v = capped_value(t);
-    let mut d = kept(o, t);
-    d.modulus = v;
-    Turn {
-        current: d,
+    Step {
+        walk: Walk {
+            phase: q,
+            counts: c,
+            current: Current {
+                key: o.key,
+                operand: o.operand,
+                modulus: v,
+                negated: o.negated,
+                low: o.low,
+                other: is_other(t),
+            },
+            mark: mark_after(m, at, pick_byte(is_modulus(v), 0, 23), at),
+        },
         value: v,
-        row: pick_byte(is_modulus(v), 0, 23),
+        closes: none(),
+        starts: false,
+        ends: false,
     }
 }
 
-// So many values are before this one.
-fn turn_value(t: &[u8], values: usize, o: Current) -> Turn
-    ensures { λ r. ⌜ r ≡ turnOf (currentAfter o Phase.Value (now (t .entry)) (capped (now (t .entry))) (o .key)) (capped (now (t .entry))) (valueRow (capped (now (t .entry))) values) ⌝ }
+// A value, which starts a range.
+fn at_value(q: Phase, t: &[u8], at: usize, w: Walk) -> Step
+    ensures { λ r. ⌜ r ≡ stepBy Phase.Value nothing q (now (t .entry)) at [] w ⌝ }
 {
+    let c = w.counts;
+    let o = w.current;
+    let m = w.mark;
     let v = capped_value(t);
-    let mut d = kept(o, t);
-    d.low = v;
-    Turn {
-        current: d,
+    Step {
+        walk: Walk {
+            phase: q,
+            counts: counts_each(c, true, none()),
+            current: Current {
+                key: o.key,
+                operand: o.operand,
+                modulus: o.modulus,
+                negated: o.negated,
+                low: v,
+                other: is_other(t),
+            },
+            mark: mark_after(m, at, value_row(v, c.values), at),
+        },
         value: v,
-        row: pick_byte(MAX_VALUE < v, 22, pick_byte(values < MAX_RANGES, 0, 26)),
+        closes: none(),
+        starts: true,
+        ends: false,
+    }
+}
+
+// What follows a relation or `other:`, and closes x.
+fn at_close(x: Closes, q: Phase, t: &[u8], at: usize, w: Walk) -> Step
+    ensures { λ r. ⌜ r ≡ stepBy Phase.DotsOrMore x q (now (t .entry)) at [] w ⌝ }
+{
+    let c = w.counts;
+    let o = w.current;
+    let m = w.mark;
+    Step {
+        walk: Walk {
+            phase: q,
+            counts: counts_each(c, false, x),
+            current: kept(o, t),
+            mark: mark_after(m, at, 0, at),
+        },
+        value: 0,
+        closes: x,
+        starts: false,
+        ends: false,
     }
 }
 
 // The upper end of a range.
-fn turn_upper(t: &[u8], o: Current) -> Turn
-    ensures { λ r. ⌜ r ≡ turnOf (currentAfter o Phase.Upper (now (t .entry)) (capped (now (t .entry))) (o .key)) (capped (now (t .entry))) (upperRow (capped (now (t .entry))) (o .low)) ⌝ }
+fn at_upper(q: Phase, t: &[u8], at: usize, w: Walk) -> Step
+    ensures { λ r. ⌜ r ≡ stepBy Phase.Upper nothing q (now (t .entry)) at [] w ⌝ }
 {
-    let v = capped_value(t);
-    Turn {
-        current: kept(o, t),
-        value: v,
-        row: pick_byte(MAX_VALUE < v, 22, pick_byte(v < o.low, 24, 0)),
-    }
-}
-
-// By the phase p before the token.
-fn turn_at(p: Phase, t: &[u8], keys: &[u8], c: Counts, o: Current) -> Turn
-    ensures { λ r. ⌜ r ≡ turnAt p (now (t .entry)) (now (keys .entry)) c o ⌝ }
-{
-    if same_phase(p, Phase::Name) {
-        return turn_name(t, keys, c.rules, o);
-    }
-    if same_phase(p, Phase::Operand) {
-        return turn_operand(t, c.parted, c.joined, o);
-    }
-    if same_phase(p, Phase::ModulusOrSign) {
-        return turn_sign(t, o);
-    }
-    if same_phase(p, Phase::Modulus) {
-        return turn_modulus(t, o);
-    }
-    if same_phase(p, Phase::Sign) {
-        return turn_sign(t, o);
-    }
-    if same_phase(p, Phase::Value) {
-        return turn_value(t, c.values, o);
-    }
-    if same_phase(p, Phase::Upper) {
-        return turn_upper(t, o);
-    }
-    Turn {
-        current: kept(o, t),
-        value: 0,
-        row: 0,
-    }
-}
-
-// The walk behind a token that changes u and closes x.
-fn walk_after(u: Turn, x: Closes, t: &[u8], at: usize, w: Walk) -> Walk
-    ensures { λ r. ⌜ r ≡ walkAfter u x (now (t .entry)) at w ⌝ }
-{
-    let p = w.phase;
     let c = w.counts;
     let o = w.current;
     let m = w.mark;
-    let d = u.current;
-    Walk {
-        phase: next_phase(p, o.other, t),
-        counts: counts_after(c, same_phase(p, Phase::Value), x),
-        current: d,
-        mark: mark_after(p, m, u.row, at),
+    let v = capped_value(t);
+    Step {
+        walk: Walk {
+            phase: q,
+            counts: c,
+            current: kept(o, t),
+            mark: mark_after(m, at, upper_row(v, o.low), at),
+        },
+        value: v,
+        closes: none(),
+        starts: false,
+        ends: true,
+    }
+}
+
+// Any token where nothing makes the pack well-formed.
+fn at_dead(t: &[u8], at: usize, w: Walk) -> Step
+    ensures { λ r. ⌜ r ≡ stepBy Phase.Dead nothing Phase.Dead (now (t .entry)) at [] w ⌝ }
+{
+    let c = w.counts;
+    let o = w.current;
+    let m = w.mark;
+    Step {
+        walk: Walk {
+            phase: Phase::Dead,
+            counts: c,
+            current: kept(o, t),
+            mark: mark_after(m, m.stop, 0, at),
+        },
+        value: 0,
+        closes: none(),
+        starts: false,
+        ends: false,
     }
 }
 
@@ -398,15 +526,37 @@ pub fn step_after(t: &[u8], at: usize, keys: &[u8], w: Walk) -> Step
     ensures { λ r. ⌜ r ≡ stepAfter (now (t .entry)) at (now (keys .entry)) w ⌝ }
 {
     let p = w.phase;
-    let c = w.counts;
     let o = w.current;
-    let u = turn_at(p, t, keys, c, o);
-    let x = closes_at(p, t);
-    Step {
-        walk: walk_after(u, x, t, at, w),
-        value: u.value,
-        closes: x,
-        starts: same_phase(p, Phase::Value),
-        ends: same_phase(p, Phase::Upper),
+    match p {
+        Phase::Name => at_name(next_phase(Phase::Name, o.other, t), t, at, keys, w),
+        Phase::Colon => at_colon(next_phase(Phase::Colon, o.other, t), t, at, w),
+        Phase::Nothing => at_close(
+            ends_bare(t),
+            next_phase(Phase::Nothing, o.other, t),
+            t,
+            at,
+            w,
+        ),
+        Phase::Operand => at_operand(next_phase(Phase::Operand, o.other, t), t, at, w),
+        Phase::ModulusOrSign => at_sign(next_phase(Phase::ModulusOrSign, o.other, t), t, at, w),
+        Phase::Modulus => at_modulus(next_phase(Phase::Modulus, o.other, t), t, at, w),
+        Phase::Sign => at_sign(next_phase(Phase::Sign, o.other, t), t, at, w),
+        Phase::Value => at_value(next_phase(Phase::Value, o.other, t), t, at, w),
+        Phase::DotsOrMore => at_close(
+            ends_relation(t),
+            next_phase(Phase::DotsOrMore, o.other, t),
+            t,
+            at,
+            w,
+        ),
+        Phase::Upper => at_upper(next_phase(Phase::Upper, o.other, t), t, at, w),
+        Phase::More => at_close(
+            ends_relation(t),
+            next_phase(Phase::More, o.other, t),
+            t,
+            at,
+            w,
+        ),
+        Phase::Dead => at_dead(t, at, w),
     }
 }

@@ -1,4 +1,4 @@
--- `kept` is the definition at a phase that changes nothing else.
+-- `kept` is the definition.
 use borrow.Author.Needs.{needs}
 use Rattle.pack_walk.proofs.kept.Statement.{statement}
 use Rattle.pack_walk.proofs.kept.Tie as tie

@@ -1,20 +1,16 @@
--- `more_if` goes by its two tests.
-use borrow.Author.Tests.{lt-ltb, le-ltb}
+-- `more_if` is `more` where the test holds.
 use borrow.Author.Needs.{needs}
 use Rattle.pack_walk.proofs.more_if.Statement.{statement}
 use Rattle.pack_walk.proofs.more_if.Tie as tie
 
-add-result : tie.Need-add-result
-add-result c = search needs
+more-requires : tie.Need-more-requires
+more-requires c κs = search needs
 
 returns : tie.Need-returns
-returns c = rw (c .before .if1 .taken, lt-ltb _ _ (c .if2 .taken))
+returns c = simp (c .more .ensures, c .before .if1 .taken)
 
 returns-2 : tie.Need-returns-2
-returns-2 c = rw (c .before .if1 .taken, le-ltb _ _ (c .if2 .left))
-
-returns-3 : tie.Need-returns-3
-returns-3 c = search needs
+returns-2 c = simp (c .if1 .left)
 
 pub more-if-spec : {M : Type 1} → statement M
-more-if-spec = tie.close (tie.spec add-result returns returns-2 returns-3)
+more-if-spec = tie.close (tie.spec more-requires returns returns-2)

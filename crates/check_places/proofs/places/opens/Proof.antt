@@ -22,7 +22,7 @@ loop-holds : tie.Need-loop-holds Inv-loop μ-loop
 loop-holds c = (omega arith, omega arith, λ k a b. absurd (omega arith))
 
 is-marked-requires : tie.Need-is-marked-requires Inv-loop μ-loop
-is-marked-requires c κs = c .loop-test .taken
+is-marked-requires c κs = omega (arith, c .loop-test .taken)
 
 shr-result : tie.Need-shr-result Inv-loop μ-loop
 shr-result c = omega (arith, c .before .before .loop-test .taken)
