@@ -11,9 +11,13 @@ padded zero l = []
 padded (suc n) [] = 0 ∷ padded n []
 padded (suc n) (x ∷ l) = x ∷ padded n l
 
--- a refusal's figures: no row has more than six
+-- no row has more figures
+abbrev pub maxFigures : ℕ
+maxFigures = 7
+
+-- a refusal's figures
 abbrev pub figureList : List ℕ → FigureList
-figureList l = record { count = length l; values = padded 6 l }
+figureList l = record { count = length l; values = padded maxFigures l }
 
 -- a keyword's letters: none has more than five
 abbrev pub letterList : List ℕ → Letters

@@ -11,7 +11,11 @@ use Rattle.answer.specs.declared.PatternRow.the-variants.{PatternTooLong
 use Rattle.answer.specs.declared.SymbolRow.{SymbolRow}
 use Rattle.answer.specs.declared.SymbolRow.the-variants.{NotASymbolRecord, BadSymbolBody}
 use Rattle.answer.specs.declared.Refusal.{Refusal}
-use Rattle.answer.specs.declared.Refusal.the-variants.{Number, PackTooLong, Pack, TwoRulesMet, RulesClash, Pattern, Symbols, PrintedExponent, AreaTooShort}
+use Rattle.answer.specs.declared.RulesRow.{RulesRow}
+use Rattle.answer.specs.declared.RulesRow.the-variants.{TwoRulesMet, RulesClash}
+use Rattle.answer.specs.declared.PrintRow.{PrintRow}
+use Rattle.answer.specs.declared.PrintRow.the-variants.{PrintedExponent, AreaTooShort}
+use Rattle.answer.specs.declared.Refusal.the-variants.{Number, PackTooLong, Pack, Rules, Pattern, Symbols, Print}
 
 -- ---- the column "no."
 
@@ -31,6 +35,10 @@ packRow RangeReversed = 24
 packRow BadKeyword = 25
 packRow TooMany = 26
 
+abbrev pub rulesRow : RulesRow → ℕ
+rulesRow (TwoRulesMet pair) = 27
+rulesRow (RulesClash pair x) = 27
+
 abbrev pub patternRow : PatternRow → ℕ
 patternRow PatternTooLong = 30
 patternRow PatternNotUtf8 = 31
@@ -44,26 +52,34 @@ abbrev pub symbolRow : SymbolRow → ℕ
 symbolRow NotASymbolRecord = 40
 symbolRow BadSymbolBody = 41
 
+abbrev pub printRow : PrintRow → ℕ
+printRow PrintedExponent = 50
+printRow (AreaTooShort n) = 51
+
 abbrev pub numberOf : Refusal → ℕ
 numberOf (Number row) = numberRow row
 numberOf PackTooLong = 20
 numberOf (Pack row at) = packRow row
-numberOf (TwoRulesMet pair) = 27
-numberOf (RulesClash pair x) = 27
+numberOf (Rules row) = rulesRow row
 numberOf (Pattern row) = patternRow row
 numberOf (Symbols row) = symbolRow row
-numberOf PrintedExponent = 50
-numberOf (AreaTooShort n) = 51
+numberOf (Print row) = printRow row
 
 -- ---- the column "returns besides"
+
+abbrev pub rulesFigures : RulesRow → List ℕ
+rulesFigures (TwoRulesMet pair) = pair .first ∷ pair .second ∷ []
+rulesFigures (RulesClash pair x) = pair .first ∷ pair .second ∷ x .e ∷ x .v .0 ∷ x .i ∷ x .f .0 ∷ []
+
+abbrev pub printFigures : PrintRow → List ℕ
+printFigures PrintedExponent = []
+printFigures (AreaTooShort n) = n ∷ []
 
 abbrev pub figuresOf : Refusal → List ℕ
 figuresOf (Number row) = []
 figuresOf PackTooLong = []
 figuresOf (Pack row at) = at .0 ∷ []
-figuresOf (TwoRulesMet pair) = pair .first ∷ pair .second ∷ []
-figuresOf (RulesClash pair x) = pair .first ∷ pair .second ∷ x .e ∷ x .v .0 ∷ x .i ∷ x .f .0 ∷ []
+figuresOf (Rules row) = rulesFigures row
 figuresOf (Pattern row) = []
 figuresOf (Symbols row) = []
-figuresOf PrintedExponent = []
-figuresOf (AreaTooShort n) = n ∷ []
+figuresOf (Print row) = printFigures row

@@ -7,7 +7,7 @@
 ghost use mathlib.Core.Path.{_≡_};
 ghost use Prim.Native.Nat.{_≤_};
 ghost use mathlib.Core.List.{[], _∷_};
-ghost use Rattle.answer.specs.Table.{numberRow, packRow, patternRow, symbolRow, numberOf, figuresOf};
+ghost use Rattle.answer.specs.Table.{numberRow, packRow, rulesRow, patternRow, symbolRow, printRow, rulesFigures, printFigures, numberOf, figuresOf};
 ghost use Rattle.answer.specs.Words.{spelling};
 ghost use Rattle.answer.specs.Lists.{figureList, letterList};
 use decimal::DigitValue;
@@ -50,6 +50,13 @@ pub enum PackRow {
     TooMany,
 }
 
+// The rows of the rules of a pack that is read: two that a number meets, two that the check finds met by
+// one number.
+pub enum RulesRow {
+    TwoRulesMet(Pair),
+    RulesClash(Pair, Witness),
+}
+
 // The rows of a pattern.
 pub enum PatternRow {
     PatternTooLong,
@@ -67,23 +74,30 @@ pub enum SymbolRow {
     BadSymbolBody,
 }
 
-// A row of the table with what it returns besides.
-pub enum Refusal {
-    Number(NumberRow),
-    PackTooLong,
-    Pack(PackRow, Place),
-    TwoRulesMet(Pair),
-    RulesClash(Pair, Witness),
-    Pattern(PatternRow),
-    Symbols(SymbolRow),
+// The rows of printing what has been read.
+pub enum PrintRow {
     PrintedExponent,
     AreaTooShort(usize),
 }
 
+// A row of the table with what it returns besides, by what it judges.
+pub enum Refusal {
+    Number(NumberRow),
+    PackTooLong,
+    Pack(PackRow, Place),
+    Rules(RulesRow),
+    Pattern(PatternRow),
+    Symbols(SymbolRow),
+    Print(PrintRow),
+}
+
+// No row has more figures.
+pub const MAX_FIGURES: usize = 7;
+
 // The figures of a refusal: the first `count` of `values`, and zeros behind them.
 pub struct FigureList {
     pub count: usize,
-    pub values: [u64; 6],
+    pub values: [u64; MAX_FIGURES],
 }
 
 fn number_row(r: NumberRow) -> u8
@@ -112,6 +126,15 @@ fn pack_row(r: PackRow) -> u8
     }
 }
 
+fn rules_row(r: RulesRow) -> u8
+    ensures { λ n. ⌜ n ≡ rulesRow r ⌝ }
+{
+    match r {
+        RulesRow::TwoRulesMet(_) => 27,
+        RulesRow::RulesClash(_, _) => 27,
+    }
+}
+
 fn pattern_row(r: PatternRow) -> u8
     ensures { λ n. ⌜ n ≡ patternRow r ⌝ }
 {
@@ -135,6 +158,15 @@ fn symbol_row(r: SymbolRow) -> u8
     }
 }
 
+fn print_row(r: PrintRow) -> u8
+    ensures { λ n. ⌜ n ≡ printRow r ⌝ }
+{
+    match r {
+        PrintRow::PrintedExponent => 50,
+        PrintRow::AreaTooShort(_) => 51,
+    }
+}
+
 // The row's number in document 01's table.
 pub fn number(r: Refusal) -> u8
     ensures { λ n. ⌜ n ≡ numberOf r ⌝ }
@@ -143,12 +175,10 @@ pub fn number(r: Refusal) -> u8
         Refusal::Number(row) => number_row(row),
         Refusal::PackTooLong => 20,
         Refusal::Pack(row, _) => pack_row(row),
-        Refusal::TwoRulesMet(_) => 27,
-        Refusal::RulesClash(_, _) => 27,
+        Refusal::Rules(row) => rules_row(row),
         Refusal::Pattern(row) => pattern_row(row),
         Refusal::Symbols(row) => symbol_row(row),
-        Refusal::PrintedExponent => 50,
-        Refusal::AreaTooShort(_) => 51,
+        Refusal::Print(row) => print_row(row),
     }
 }
 
@@ -157,7 +187,7 @@ fn none() -> FigureList
 {
     FigureList {
         count: 0,
-        values: [0; 6],
+        values: [0; MAX_FIGURES],
     }
 }
 
@@ -166,7 +196,7 @@ fn one(a: usize) -> FigureList
 {
     FigureList {
         count: 1,
-        values: [a as u64, 0, 0, 0, 0, 0],
+        values: [a as u64, 0, 0, 0, 0, 0, 0],
     }
 }
 
@@ -181,7 +211,7 @@ fn of_pair(p: Pair) -> FigureList
 {
     FigureList {
         count: 2,
-        values: [p.first as u64, p.second as u64, 0, 0, 0, 0],
+        values: [p.first as u64, p.second as u64, 0, 0, 0, 0, 0],
     }
 }
 
@@ -199,7 +229,26 @@ fn of_clash(p: Pair, x: Witness) -> FigureList
             v.0 as u64,
             x.i,
             f.0,
+            0,
         ],
+    }
+}
+
+fn of_rules(r: RulesRow) -> FigureList
+    ensures { λ s. ⌜ s ≡ figureList (rulesFigures r) ⌝ }
+{
+    match r {
+        RulesRow::TwoRulesMet(p) => of_pair(p),
+        RulesRow::RulesClash(p, x) => of_clash(p, x),
+    }
+}
+
+fn of_printing(r: PrintRow) -> FigureList
+    ensures { λ s. ⌜ s ≡ figureList (printFigures r) ⌝ }
+{
+    match r {
+        PrintRow::PrintedExponent => none(),
+        PrintRow::AreaTooShort(n) => one(n),
     }
 }
 
@@ -211,12 +260,10 @@ pub fn figures(r: Refusal) -> FigureList
         Refusal::Number(_) => none(),
         Refusal::PackTooLong => none(),
         Refusal::Pack(_, at) => of_place(at),
-        Refusal::TwoRulesMet(p) => of_pair(p),
-        Refusal::RulesClash(p, x) => of_clash(p, x),
+        Refusal::Rules(row) => of_rules(row),
         Refusal::Pattern(_) => none(),
         Refusal::Symbols(_) => none(),
-        Refusal::PrintedExponent => none(),
-        Refusal::AreaTooShort(n) => one(n),
+        Refusal::Print(row) => of_printing(row),
     }
 }
 

@@ -13,17 +13,18 @@ use Rattle.line.specs.Jobs.{jobAt, jobOf}
 use Rattle.bench_line.specs.Lines.{spaced, refusalText, selectionText, checkText, maxOutput, printedText, formatText, jobText, jobAnswer}
 use Rattle.line.specs.declared.JobCut.{JobCut}
 use Rattle.line.specs.declared.JobCut.the-variants.{SelectAt, CheckAt, FormatAt}
-use Rattle.plural.specs.declared.Selection.{Selection}
+use Rattle.select.specs.declared.Selection.{Selection}
 use Rattle.answer.specs.declared.Refusal.{Refusal}
-use Rattle.answer.specs.declared.Refusal.the-variants.{AreaTooShort}
+use Rattle.answer.specs.declared.Refusal.the-variants.{Print as OfPrint}
+use Rattle.answer.specs.declared.PrintRow.the-variants.{AreaTooShort}
 use Rattle.print.specs.Outcome.{Outcome, outcome, answerOf, areaOf}
 use Rattle.print.specs.Outcome.Outcome.{text, refused}
 use Rattle.print.specs.declared.Printed.{Printed}
 use Rattle.print.specs.declared.Printed.the-variants.{Text, Refused as PrintRefused}
 use Rattle.decimal.proofs.Choices.{tested, never}
-use Rattle.select.specs.Select.{selectOf}
-use Rattle.pack_check.specs.Check.{checkPack}
-use Rattle.pack_check.specs.declared.PackCheck.{PackCheck}
+use Rattle.select_text.specs.Select.{selectOf}
+use Rattle.check_text.specs.Check.{checkPack}
+use Rattle.check_text.specs.declared.PackCheck.{PackCheck}
 
 -- the figures that are left: one and the rest, or none
 pub spaced-next : (vs : List ℕ) (n k : ℕ) → k < n → k < length vs
@@ -59,7 +60,7 @@ text-answer (text s) area n r l e t = tested (ltb (length area) (length s)) long
   where
     long : ltb (length area) (length s) ≡ true → printedText (take n (areaOf (text s) area)) ≡ formatText (text s)
     long k =
-        let q : r ≡ PrintRefused (AreaTooShort (length s)) = rw k at e in
+        let q : r ≡ PrintRefused (OfPrint (AreaTooShort (length s))) = rw k at e in
         never (cc)
 
     short : ltb (length area) (length s) ≡ false → printedText (take n (areaOf (text s) area)) ≡ formatText (text s)
@@ -77,8 +78,8 @@ refused-answer (text s) area f r l e t = tested (ltb (length area) (length s)) l
   where
     long : ltb (length area) (length s) ≡ true → refusalText 102 f ≡ formatText (text s)
     long k =
-        let q : r ≡ PrintRefused (AreaTooShort (length s)) = rw k at e in
-        let same : f ≡ AreaTooShort (length s) = cc in
+        let q : r ≡ PrintRefused (OfPrint (AreaTooShort (length s))) = rw k at e in
+        let same : f ≡ OfPrint (AreaTooShort (length s)) = cc in
         let m : ltb maxOutput (length s) ≡ true = subst (λ (x : ℕ). ltb x (length s) ≡ true) l k in
         rw (m, same)
 

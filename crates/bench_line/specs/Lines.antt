@@ -11,15 +11,16 @@ use Rattle.answer.specs.Table.{numberOf, figuresOf}
 use Rattle.answer.specs.Words.{spelling}
 use Rattle.answer.specs.declared.Keyword.{Keyword}
 use Rattle.answer.specs.declared.Refusal.{Refusal}
-use Rattle.plural.specs.declared.Selection.{Selection}
-use Rattle.plural.specs.declared.Selection.the-variants.{Word, Refused}
-use Rattle.answer.specs.declared.Refusal.the-variants.{AreaTooShort}
+use Rattle.select.specs.declared.Selection.{Selection}
+use Rattle.select.specs.declared.Selection.the-variants.{Word, Refused}
+use Rattle.answer.specs.declared.Refusal.the-variants.{Print as OfPrint}
+use Rattle.answer.specs.declared.PrintRow.the-variants.{AreaTooShort}
 use Rattle.print.specs.Outcome.{Outcome, outcome}
 use Rattle.print.specs.Outcome.Outcome.{text, refused}
-use Rattle.select.specs.Select.{selectOf}
-use Rattle.pack_check.specs.Check.{checkPack}
-use Rattle.pack_check.specs.declared.PackCheck.{PackCheck}
-use Rattle.pack_check.specs.declared.PackCheck.the-variants.{Passes, Refused as PackRefused}
+use Rattle.select_text.specs.Select.{selectOf}
+use Rattle.check_text.specs.Check.{checkPack}
+use Rattle.check_text.specs.declared.PackCheck.{PackCheck}
+use Rattle.check_text.specs.declared.PackCheck.the-variants.{Passes, Refused as PackRefused}
 use Rattle.line.specs.Cuts.{maxLine}
 use Rattle.line.specs.Jobs.{Job, jobOf}
 use Rattle.line.specs.Jobs.Job.{select, check, format, none}
@@ -64,7 +65,7 @@ abbrev pub printedText : List ℕ → List ℕ
 printedText t = ((102 ∷ 32 ∷ []) ++ t) ++ (10 ∷ [])
 
 abbrev pub formatText : Outcome → List ℕ
-formatText (text t) = if ltb maxOutput (length t) then refusalText 102 (AreaTooShort (length t)) else printedText t
+formatText (text t) = if ltb maxOutput (length t) then refusalText 102 (OfPrint (AreaTooShort (length t))) else printedText t
 formatText (refused r) = refusalText 102 r
 
 -- "`f`, pattern, number (standard symbols)": the house record is empty

@@ -12,14 +12,15 @@ ghost use Rattle.bench_line.specs.Stream.{cutAnswer};
 ghost use Rattle.print.specs.Outcome.{outcome};
 use answer::FigureList;
 use answer::Keyword;
+use answer::MAX_FIGURES;
 use answer::Refusal;
+use check_text::PackCheck;
 use decimal::num::wide_byte;
 use line::JobCut;
 use line::MAX_LINE;
 use line::read_job;
-use pack_check::PackCheck;
-use plural::Selection;
 use print::Printed;
+use select::Selection;
 
 // Appends `? ` and a number.
 fn append_unread(out: &mut [u8], at: usize, n: u64) -> usize
@@ -45,7 +46,7 @@ fn append_figures(out: &mut [u8], at: usize, f: FigureList) -> usize
     let values = f.values;
     let mut end = at;
     let mut k = 0;
-    while k < 6 {
+    while k < MAX_FIGURES {
         if f.count <= k {
             return end;
         }
@@ -126,12 +127,12 @@ fn append_job(out: &mut [u8], at: usize, line: &[u8]) -> usize
         JobCut::SelectAt(n) => append_selection(
             out,
             at,
-            select::select(
+            select_text::select(
                 decimal::cut::upto(fields, n),
                 decimal::cut::after(decimal::cut::after(fields, n), 1),
             ),
         ),
-        JobCut::CheckAt => append_check(out, at, pack_check::check(fields)),
+        JobCut::CheckAt => append_check(out, at, check_text::check(fields)),
         JobCut::FormatAt(n) => append_format(
             out,
             at,

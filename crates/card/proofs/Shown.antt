@@ -1,18 +1,18 @@
 -- Every row of the card is right, by computation from the definitions; what the check says of the rules that are read of a pack is proved from the definition of the
--- check (clash_laws/proofs/Rows.antt).
+-- check (check_laws/proofs/Rows.antt).
 use mathlib.Core.Path.{_≡_, refl}
 use mathlib.Core.List.{List, [], _∷_}
 use Prim.Native.Nat.{ℕ}
-use Rattle.rules.specs.Syntax.{Rule}
+use Rattle.pack_rules.specs.Syntax.{Rule}
 use Rattle.symbols.specs.Kinds.{kindOf}
 use Rattle.layout.specs.Layout.{spell}
-use Rattle.grammar.specs.Reader.{readPack}
-use Rattle.grammar.specs.Reader.PackAnswer.{Rules}
-use Rattle.clash_laws.specs.Check.{checkOf}
-use Rattle.clash_laws.specs.declared.Checked.{Checked}
-use Rattle.clash_laws.specs.declared.Checked.the-variants.{Passes}
-use Rattle.clash_laws.proofs.Rows.{clash, packTens, row-tens, packTrailing, row-trailing, packSeven, row-seven, packFew, row-few}
-use Rattle.pack_check.specs.Check.{checkedBy, checkPack}
+use Rattle.pack_grammar.specs.Reader.{readPack}
+use Rattle.pack_grammar.specs.Reader.PackAnswer.{Rules}
+use Rattle.check_laws.specs.Check.{checkOf}
+use Rattle.check_laws.specs.declared.Checked.{Checked}
+use Rattle.check_laws.specs.declared.Checked.the-variants.{Passes}
+use Rattle.check_laws.proofs.Rows.{clash, packTens, row-tens, packTrailing, row-trailing, packSeven, row-seven, packFew, row-few}
+use Rattle.check_text.specs.Check.{checkedBy, checkPack}
 use Rattle.card.specs.Card.{All, rows, fewPack, tensPack, trailingPack, sevenPack}
 
 -- what the check says of a pack's text, from what it says of the rules that are read of it

@@ -8,12 +8,13 @@ use Rattle.number.specs.Reading.{readNumber}
 use Rattle.number.specs.declared.Number.{Number}
 use Rattle.number.specs.declared.Reading.{Reading}
 use Rattle.number.specs.declared.Reading.the-variants.{Is}
-use Rattle.plural.specs.declared.Selection.{Selection}
-use Rattle.plural.specs.declared.Selection.the-variants.{Word}
-use Rattle.answer.specs.declared.Refusal.the-variants.{RulesClash}
-use Rattle.pack_check.specs.Check.{checkPack}
-use Rattle.pack_check.specs.declared.PackCheck.the-variants.{Passes, Refused}
-use Rattle.select.specs.Select.{selectOf}
+use Rattle.select.specs.declared.Selection.{Selection}
+use Rattle.select.specs.declared.Selection.the-variants.{Word}
+use Rattle.answer.specs.declared.Refusal.the-variants.{Rules as OfRules}
+use Rattle.answer.specs.declared.RulesRow.the-variants.{RulesClash}
+use Rattle.check_text.specs.Check.{checkPack}
+use Rattle.check_text.specs.declared.PackCheck.the-variants.{Passes, Refused}
+use Rattle.select_text.specs.Select.{selectOf}
 use Rattle.print.specs.Outcome.{outcome}
 use Rattle.print.specs.Outcome.Outcome.{text}
 
@@ -30,7 +31,7 @@ abbrev pub Right : Row → Type 0
 Right (operands number r) = readNumber number ≡ r
 Right (word pack number s) = selectOf pack number ≡ s
 Right (passed pack) = checkPack pack ≡ Passes
-Right (clash pack first second e v i f) = checkPack pack ≡ Refused (RulesClash (record { first = first; second = second }) (record { e = e; v = record { 0 = v }; i = i; f = record { 0 = f } }))
+Right (clash pack first second e v i f) = checkPack pack ≡ Refused (OfRules (RulesClash (record { first = first; second = second }) (record { e = e; v = record { 0 = v }; i = i; f = record { 0 = f } })))
 Right (prints pattern number shown) = outcome [] pattern number ≡ text shown
 
 abbrev pub All : List Row → Type 0

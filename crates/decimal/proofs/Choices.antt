@@ -6,7 +6,7 @@ use lib.Dec.{eqb, ltb}
 use borrow.Author.Tests.{eq-eqb, ne-eqb, eqb-true, eqb-false, lt-ltb, le-ltb, ltb-true, ltb-false}
 use Prim.Native.Nat.{_<_, _≤_}
 use native.Mathlib.Omega.{arith}
-use Rattle.decimal.specs.Choice.{if_then_else_}
+use Rattle.decimal.specs.Choice.{if_then_else_, both, either}
 
 -- what holds of both branches, each where its test says so, holds of the choice
 pub choice : {A : Type 0} (P : A → Type 0) (b : Bool) {x y : A} → (b ≡ true → P x) → (b ≡ false → P y) → P (if b then x else y)
@@ -34,6 +34,26 @@ not-both {A} {b} t f = never (differ (sym t ∙ f))
   where
     differ : true ≡ false → _≡_ {A = ℕ} 0 1
     differ e = cc
+
+-- tests joined, taken apart and put together
+pub both-true : (a b : Bool) → both a b ≡ true → (a ≡ true) × (b ≡ true)
+both-true true b e = (refl, e)
+both-true false b e = not-both e refl
+
+pub both-in : {a b : Bool} → a ≡ true → b ≡ true → both a b ≡ true
+both-in e f = rw (e, f)
+
+pub both-false : (a : Bool) → both a false ≡ false
+both-false true = refl
+both-false false = refl
+
+pub both-one : (a : Bool) → both a true ≡ a
+both-one true = refl
+both-one false = refl
+
+pub either-false : (a b : Bool) → either a b ≡ false → (a ≡ false) × (b ≡ false)
+either-false true b e = not-both refl e
+either-false false b e = (refl, e)
 
 -- two tests that say the same are equal
 pub eqb-same : (a b c d : ℕ) → (a ≡ b → c ≡ d) → (c ≡ d → a ≡ b) → eqb a b ≡ eqb c d

@@ -12,7 +12,7 @@ use lib.ListN.{length, getD, take, drop, set, length-append, length-set, length-
 use lib.Seq.{drop-cons, drop-length, append-snoc, getD-set-same, drop-set-lt, take-suc, take-length, take-take, take-set-le, take-suc-set, take-append-seam}
 use Rattle.decimal.specs.Digits.{isDigit, run, valueFrom, value, figures, lead, AllDigits, shown, wide, numeral}
 use Rattle.decimal.proofs.Choices.{tested}
-use Rattle.decimal.proofs.Runs.{digits-append, digits-cons, digit-is, digit-bounds, digits-head, digits-take, digits-drop}
+use Rattle.decimal.proofs.Runs.{of-append, of-cons, digit-is, digit-bounds, of-head, of-take, of-drop}
 use Rattle.decimal.proofs.Values.{value-snoc, power-pos, ten-pos}
 use Rattle.decimal.proofs.Zeros.{value-shown, value-above, value-below, lead-stop}
 
@@ -23,8 +23,8 @@ length-figures (suc k) n = simp (length-append, length-figures k (n / 10), add-o
 pub digits-figures : (k n : ℕ) → AllDigits (figures k n)
 digits-figures zero n = refl
 digits-figures (suc k) n =
-    digits-append (figures k (n / 10)) ((48 + n % 10) ∷ []) (digits-figures k (n / 10))
-    (digits-cons (48 + n % 10) [] (digit-is (n % 10) (omega arith)) refl)
+    of-append isDigit (figures k (n / 10)) ((48 + n % 10) ∷ []) (digits-figures k (n / 10))
+    (of-cons isDigit (48 + n % 10) [] (digit-is (n % 10) (omega arith)) refl)
 
 -- the last k digits spell the remainder by 10 ^ k
 pub value-figures : (k n : ℕ) → value (figures k n) ≡ n % 10 ^ k
@@ -37,7 +37,7 @@ pub value-numeral : (n : ℕ) → n < 10 ^ wide → value (numeral n) ≡ n
 value-numeral n h = value-shown 1 (figures wide n) ∙ value-figures wide n ∙ mod-eq-of-lt h
 
 pub digits-numeral : (n : ℕ) → AllDigits (numeral n)
-digits-numeral n = digits-drop (min (lead (figures wide n)) (length (figures wide n) - 1)) (figures wide n) (digits-figures wide n)
+digits-numeral n = of-drop isDigit (min (lead (figures wide n)) (length (figures wide n) - 1)) (figures wide n) (digits-figures wide n)
 
 length-numeral : (n : ℕ) → length (numeral n) ≡ wide - min (lead (figures wide n)) (wide - 1)
 length-numeral n = length-drop (min (lead (figures wide n)) (length (figures wide n) - 1)) (figures wide n) ∙ rw (length-figures wide n)
@@ -87,13 +87,13 @@ figures-value zero s e h = refl
 figures-value (suc k) s e h =
     let b = getD s k 0 in
     let p : take (suc k) s ≡ take k s ++ (b ∷ []) = take-suc s k 0 (omega arith) in
-    let d = last-digit (take k s) b (rw p at (digits-take (suc k) s e)) in
+    let d = last-digit (take k s) b (rw p at (of-take isDigit (suc k) s e)) in
     let w : 48 + (b - 48) ≡ b = omega (arith, d) in
     rw (p, value-snoc 0 (take k s) b, figures-snoc k (value (take k s)) (b - 48) (omega (arith, d)), figures-value k s e (omega arith), w)
   where
     last-digit : (t : List ℕ) (b : ℕ) → AllDigits (t ++ (b ∷ [])) → (48 ≤ b) × (b < 58)
-    last-digit [] b x = digit-bounds b (digits-head b [] x .0)
-    last-digit (y ∷ t) b x = last-digit t b (digits-head y (t ++ (b ∷ [])) x .1)
+    last-digit [] b x = digit-bounds b (of-head isDigit b [] x .0)
+    last-digit (y ∷ t) b x = last-digit t b (of-head isDigit y (t ++ (b ∷ [])) x .1)
 
 pub figures-of : (s : List ℕ) → AllDigits s → figures (length s) (value s) ≡ s
 figures-of s e = rw take-length at (figures-value (length s) s e (omega arith))

@@ -11,7 +11,7 @@ use lib.Pow.{pow-add}
 use lib.ListN.{length, getD}
 use Rattle.decimal.specs.Digits.{isDigit, AllDigits, value}
 use Rattle.decimal.proofs.Choices.{tested}
-use Rattle.decimal.proofs.Runs.{digit-bounds, digits-head}
+use Rattle.decimal.proofs.Runs.{digit-bounds, of-head}
 use Rattle.decimal.proofs.Values.{power-pos, power-mono, value-lt, value-scales}
 use Rattle.decimal.proofs.Figured.{figures-of}
 
@@ -25,7 +25,7 @@ same-digits s t a b l e = sym (figures-of s a) ∙ rw (l, e) (figures-of t b)
 -- of two texts of one value the longer begins with a zero
 pub longer-leads : (s t : List ℕ) → AllDigits s → AllDigits t → value s ≡ value t → length s < length t → getD t 0 0 ≡ 48
 longer-leads s [] a d e l = absurd (omega arith)
-longer-leads s (b ∷ t) a d e l = tested (eqb b 48) (λ k. eqb-true b 48 k) (λ k. absurd (over (digits-head b t d) k))
+longer-leads s (b ∷ t) a d e l = tested (eqb b 48) (λ k. eqb-true b 48 k) (λ k. absurd (over (of-head isDigit b t d) k))
   where
     over : (isDigit b ≡ true) × AllDigits t → eqb b 48 ≡ false → ⊥
     over h k =

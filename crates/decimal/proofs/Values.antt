@@ -12,7 +12,7 @@ use lib.ListN.{length, getD, take, drop}
 use lib.Seq.{take-suc}
 use Rattle.decimal.specs.Digits.{isDigit, run, valueFrom, value, first, AllDigits}
 use Rattle.decimal.proofs.Choices.{tested}
-use Rattle.decimal.proofs.Runs.{digit-bounds, digits-head, digits-cons}
+use Rattle.decimal.proofs.Runs.{digit-bounds, of-head, of-cons}
 
 pub ten-pos : 0 < 10
 ten-pos = omega arith
@@ -55,8 +55,8 @@ pub digits-first : (k : ℕ) (s : List ℕ) → AllDigits s → AllDigits (first
 digits-first zero s e = refl
 digits-first (suc k) [] e = ap suc (digits-first k [] refl)
 digits-first (suc k) (b ∷ s) e =
-    let d = digits-head b s e in
-    digits-cons b (first k s) (d .0) (digits-first k s (d .1))
+    let d = of-head isDigit b s e in
+    of-cons isDigit b (first k s) (d .0) (digits-first k s (d .1))
 
 pub first-append : (s t : List ℕ) → first (length s) (s ++ t) ≡ s
 first-append [] t = refl
@@ -92,7 +92,7 @@ value-from n (b ∷ s) =
 pub value-lt : (s : List ℕ) → AllDigits s → value s < 10 ^ length s
 value-lt [] e = omega arith
 value-lt (b ∷ s) e =
-    let h = digits-head b s e in
+    let h = of-head isDigit b s e in
     let d = b - 48 in
     let k : d + 1 ≤ 10 = omega (arith, digit-bounds b (h .0) .1) in
     rw (pow-succ' 10 (length s))

@@ -12,38 +12,16 @@ use lib.Dec.{eqb}
 use lib.ListN.{length, getD, take, drop, drop-of-length-le}
 use lib.Seq.{drop-cons, take-suc}
 use Rattle.decimal.specs.Choice.{if_then_else_}
-use Rattle.decimal.specs.Digits.{isDigit, valueFrom, value, lead, shown, keep, trim, AllDigits}
+use Rattle.decimal.specs.Digits.{isDigit, isZero, valueFrom, value, lead, shown, keep, trim, AllDigits}
 use Rattle.decimal.proofs.Choices.{tested, choice}
-use Rattle.decimal.proofs.Runs.{digit-bounds, digits-head, digits-cons}
+use Rattle.decimal.proofs.Runs.{digit-bounds, run-stop, of-head, of-cons}
 use Rattle.decimal.proofs.Values.{value-from, value-lt, value-scales, power-mono}
 
 -- ---- leading zeros
 
-pub lead-more : (s : List ℕ) (i : ℕ) → i < length s → getD s i 0 ≡ 48 → i + lead (drop i s) ≡ (i + 1) + lead (drop (i + 1) s)
-lead-more s i h d = rw (add-one, drop-cons s i 0 h, d) (omega arith)
-
-pub lead-end : (s : List ℕ) (i : ℕ) → i < length s → (getD s i 0 ≡ 48 → ⊥) → lead (drop i s) ≡ 0
-lead-end s i h d = rw (drop-cons s i 0 h, ne-eqb (getD s i 0) 48 d)
-
-pub lead-out : (s : List ℕ) (i : ℕ) → length s ≤ i → lead (drop i s) ≡ 0
-lead-out s i h = rw (drop-of-length-le s h)
-
-pub lead-le : (s : List ℕ) → lead s ≤ length s
-lead-le [] = omega arith
-lead-le (b ∷ s) = tested (eqb b 48) (λ k. rw k (omega (arith, lead-le s))) (λ k. rw k (omega arith))
-
 -- the byte behind the leading zeros is none
 pub lead-stop : (s : List ℕ) → lead s < length s → getD (drop (lead s) s) 0 0 ≡ 48 → ⊥
-lead-stop [] h e = omega arith
-lead-stop (b ∷ s) h e =
-    tested (eqb b 48)
-    (λ k.
-    let h′ : suc (lead s) < suc (length s) = rw k at h in
-    let e′ : getD (drop (suc (lead s)) (b ∷ s)) 0 0 ≡ 48 = rw k at e in
-    lead-stop s (omega arith) e′)
-    (λ k.
-    let e′ : b ≡ 48 = rw k at e in
-    eqb-false b 48 k e′)
+lead-stop s h e = run-stop isZero s h (eq-eqb _ 48 e)
 
 -- leading zeros add nothing to a value
 pub value-drop : (k : ℕ) (s : List ℕ) → k ≤ lead s → value (drop k s) ≡ value s
@@ -65,7 +43,7 @@ value-shown least s = value-drop (min (lead s) (length s - least)) s (omega arit
 pub value-below : (s : List ℕ) → AllDigits s → value s < 10 ^ (length s - lead s)
 value-below [] e = omega arith
 value-below (b ∷ s) e =
-    let h = digits-head b s e in
+    let h = of-head isDigit b s e in
     tested (eqb b 48)
     (λ k. rw k (rw (suc-sub-suc (length s) (lead s), eqb-true b 48 k) (value-below s (h .1))))
     (λ k. rw k (rw (sub-zero (suc (length s))) (value-lt (b ∷ s) e)))
@@ -73,7 +51,7 @@ value-below (b ∷ s) e =
 pub value-above : (s : List ℕ) (k : ℕ) → AllDigits s → k < length s - lead s → 10 ^ k ≤ value s
 value-above [] k e h = omega arith
 value-above (b ∷ s) k e h =
-    let d = digits-head b s e in
+    let d = of-head isDigit b s e in
     tested (eqb b 48)
     (λ z.
     let h′ : k < suc (length s) - suc (lead s) = rw z at h in
@@ -151,7 +129,7 @@ value-trim n (b ∷ s) = kept (trim s) (value-trim (10 * n + (b - 48)) s)
 pub trim-last : (n : ℕ) (s : List ℕ) → AllDigits s → (trim s ≡ []) ⊎ (valueFrom n (trim s) % 10 ≡ 0 → ⊥)
 trim-last n [] e = _⊎_.inl refl
 trim-last n (b ∷ s) e =
-    let d = digits-head b s e in
+    let d = of-head isDigit b s e in
     kept (trim s) (digit-bounds b (d .0)) (trim-last (10 * n + (b - 48)) s (d .1))
   where
     kept : (t : List ℕ) → (48 ≤ b) × (b < 58) → (t ≡ []) ⊎ (valueFrom (10 * n + (b - 48)) t % 10 ≡ 0 → ⊥)

@@ -6,6 +6,7 @@ use Prim.Native.Nat.{ℕ, zero, suc, _+_, _*_, _-_, _/_, _%_, _^_, min}
 use lib.Dec.{ltb, eqb}
 use lib.ListN.{length, getD, take, drop}
 use Rattle.decimal.specs.Choice.{if_then_else_}
+use Rattle.decimal.specs.Lists.{runOf, AllOf}
 
 abbrev pub isDigit : ℕ → Bool
 isDigit b = if ltb b 48 then false else ltb b 58
@@ -16,12 +17,11 @@ begins b s = if eqb (length s) 0 then false else eqb (getD s 0 0) b
 
 -- how many digits a text begins with
 abbrev pub run : List ℕ → ℕ
-run [] = 0
-run (b ∷ s) = if isDigit b then suc (run s) else 0
+run s = runOf isDigit s
 
 -- digits alone
 abbrev pub AllDigits : List ℕ → Type 0
-AllDigits s = run s ≡ length s
+AllDigits s = AllOf isDigit s
 
 -- the number whose first digits have the value n and whose further digits are these
 abbrev pub valueFrom : ℕ → List ℕ → ℕ
@@ -42,10 +42,12 @@ first zero s = []
 first (suc k) [] = 48 ∷ first k []
 first (suc k) (b ∷ s) = b ∷ first k s
 
+abbrev pub isZero : ℕ → Bool
+isZero b = eqb b 48
+
 -- how many zeros a text begins with
 abbrev pub lead : List ℕ → ℕ
-lead [] = 0
-lead (b ∷ s) = if eqb b 48 then suc (lead s) else 0
+lead s = runOf isZero s
 
 -- digits without their leading zeros, but at least `least` of them where there are so many
 abbrev pub shown : ℕ → List ℕ → List ℕ

@@ -13,15 +13,15 @@ use Rattle.decimal.proofs.Choices.{tested, not-both}
 use Rattle.answer.specs.declared.Keyword.{Keyword}
 use Rattle.answer.specs.declared.Keyword.the-variants.{Other}
 use Rattle.number.specs.declared.Number.{Number}
-use Rattle.rules.specs.Syntax.{Rule}
-use Rattle.plural.specs.Meaning.{meets}
-use Rattle.plural.specs.Select.{metBy, bit, countMet, firstMet, secondMet, keywordAt, selection}
-use Rattle.plural.specs.Words.{MeetsAt}
-use Rattle.plural.specs.Words.MeetsAt.{here, there}
-use Rattle.plural.specs.declared.Selection.{Selection}
-use Rattle.plural.specs.declared.Selection.the-variants.{Word}
-use Rattle.plural.proofs.Chosen.{counted, behind-counted, first-le, first-meets, second-meets}
-use Rattle.clash_laws.specs.Claims.{ruleAt}
+use Rattle.pack_rules.specs.Syntax.{Rule}
+use Rattle.meaning.specs.Meaning.{meets}
+use Rattle.select.specs.Select.{metBy, bit, countMet, firstMet, secondMet, keywordAt, selection}
+use Rattle.select.specs.Words.{MeetsAt}
+use Rattle.select.specs.Words.MeetsAt.{here, there}
+use Rattle.select.specs.declared.Selection.{Selection}
+use Rattle.select.specs.declared.Selection.the-variants.{Word}
+use Rattle.select.proofs.Chosen.{counted, behind-counted, first-le, first-meets, second-meets}
+use Rattle.check_laws.specs.Claims.{ruleAt}
 
 -- how many rules are met
 abbrev pub met : List Rule → Number → ℕ

@@ -18,34 +18,36 @@ use Rattle.answer.specs.declared.PatternRow.the-variants.{PatternTooLong, Patte
 use Rattle.answer.specs.declared.SymbolRow.{SymbolRow}
 use Rattle.answer.specs.declared.SymbolRow.the-variants.{NotASymbolRecord, BadSymbolBody}
 use Rattle.answer.specs.declared.Refusal.{Refusal}
-use Rattle.answer.specs.declared.Refusal.the-variants.{Number, PackTooLong, Pack, TwoRulesMet, RulesClash, Pattern, Symbols, PrintedExponent, AreaTooShort}
+use Rattle.answer.specs.declared.Refusal.the-variants.{Number, PackTooLong, Pack, Rules as OfRules, Pattern, Symbols, Print as OfPrint}
+use Rattle.answer.specs.declared.RulesRow.the-variants.{TwoRulesMet, RulesClash}
+use Rattle.answer.specs.declared.PrintRow.the-variants.{PrintedExponent, AreaTooShort}
 use Rattle.number.specs.Reading.{readNumber}
 use Rattle.number.specs.declared.Number.{Number as Operands}
 use Rattle.number.specs.declared.Reading.{Reading}
 use Rattle.number.specs.declared.Reading.the-variants.{Is as NumberIs, Refused as NumberRefused}
-use Rattle.rules.specs.Syntax.{Rule}
-use Rattle.grammar.specs.Reader.{PackAnswer, rowOf}
-use Rattle.grammar.specs.Reader.PackAnswer.{Rules, Refused as PackRefused}
-use Rattle.plural.specs.Words.{Chosen}
-use Rattle.plural.specs.Words.Chosen.{none, one, two}
-use Rattle.plural.specs.declared.Selection.{Selection}
-use Rattle.plural.specs.declared.Selection.the-variants.{Word, Refused as SelectionRefused}
-use Rattle.select.specs.Select.{selectOf}
-use Rattle.pack_check.specs.Check.{checkPack}
-use Rattle.pack_check.specs.declared.PackCheck.{PackCheck}
-use Rattle.pack_check.specs.declared.PackCheck.the-variants.{Passes, Refused as CheckRefused}
+use Rattle.pack_rules.specs.Syntax.{Rule}
+use Rattle.pack_grammar.specs.Reader.{PackAnswer, rowOf}
+use Rattle.pack_grammar.specs.Reader.PackAnswer.{Rules, Refused as PackRefused}
+use Rattle.select.specs.Words.{Chosen}
+use Rattle.select.specs.Words.Chosen.{none, one, two}
+use Rattle.select.specs.declared.Selection.{Selection}
+use Rattle.select.specs.declared.Selection.the-variants.{Word, Refused as SelectionRefused}
+use Rattle.select_text.specs.Select.{selectOf}
+use Rattle.check_text.specs.Check.{checkPack}
+use Rattle.check_text.specs.declared.PackCheck.{PackCheck}
+use Rattle.check_text.specs.declared.PackCheck.the-variants.{Passes, Refused as CheckRefused}
 use Rattle.symbols.specs.declared.Judged.{Judged}
 use Rattle.symbols.specs.declared.Judged.the-variants.{Good, Refused as SymbolsRefused}
 use Rattle.symbols_grammar.specs.Record.{Verdict as SymbolsVerdict}
 use Rattle.symbols_grammar.specs.Record.Verdict.{no-record, symbol-twice, bad-body, good}
-use Rattle.pattern.specs.declared.PatternReading.{PatternReading}
-use Rattle.pattern.specs.declared.PatternReading.the-variants.{Is as PatternIs, Refused as PatternRefused}
+use Rattle.pattern_reader.specs.declared.PatternReading.{PatternReading}
+use Rattle.pattern_reader.specs.declared.PatternReading.the-variants.{Is as PatternIs, Refused as PatternRefused}
 use Rattle.pattern_grammar.specs.Verdict.{Verdict as PatternVerdict}
 use Rattle.pattern_grammar.specs.Verdict.Verdict.{too-long as long-pattern, not-utf8, reserved, not-a-pattern, many-places, large-step, many-marks, other-marks, read as read-pattern}
 use Rattle.print.specs.declared.Printed.{Printed}
 use Rattle.print.specs.declared.Printed.the-variants.{Text, Refused as PrintRefused}
 use Rattle.print.specs.Outcome.{outcome, answerOf, areaOf}
-use Rattle.print.proofs.Theorems.{area-kept}
+use Rattle.print_grammar.proofs.Theorems.{area-kept}
 use Rattle.screen.specs.Entries.{noted, operandsOf, wordNumber, readCode, readFigures, selectCode, selectFigures, checkCode, checkFigures, printCode, printFigures}
 use Rattle.screen.proofs.Noted.{noted-front}
 use Rattle.demands.specs.Verdicts.{NumberVerdict, PackVerdict, SelectVerdict, CheckVerdict, PrintVerdict}
@@ -153,12 +155,12 @@ pub never-zero : (r : Refusal) → 0 < numberOf r
 never-zero (Number q) = omega (arith, number-rows q .0)
 never-zero PackTooLong = omega arith
 never-zero (Pack q at) = omega (arith, pack-rows q .0)
-never-zero (TwoRulesMet pair) = omega arith
-never-zero (RulesClash pair x) = omega arith
+never-zero (OfRules (TwoRulesMet pair)) = omega arith
+never-zero (OfRules (RulesClash pair x)) = omega arith
 never-zero (Pattern q) = omega (arith, pattern-rows q .0)
 never-zero (Symbols q) = omega (arith, symbol-rows q .0)
-never-zero PrintedExponent = omega arith
-never-zero (AreaTooShort n) = omega arith
+never-zero (OfPrint PrintedExponent) = omega arith
+never-zero (OfPrint (AreaTooShort n)) = omega arith
 
 -- so a refusal whose code is 0 or in a part of the table is in that part
 not-zero : {A : Type 0} (r : Refusal) → ZeroOr A (numberOf r) → A
@@ -169,12 +171,12 @@ figures-few : (r : Refusal) → length (figuresOf r) ≤ 7
 figures-few (Number q) = omega arith
 figures-few PackTooLong = omega arith
 figures-few (Pack q at) = omega arith
-figures-few (TwoRulesMet pair) = omega arith
-figures-few (RulesClash pair x) = omega arith
+figures-few (OfRules (TwoRulesMet pair)) = omega arith
+figures-few (OfRules (RulesClash pair x)) = omega arith
 figures-few (Pattern q) = omega arith
 figures-few (Symbols q) = omega arith
-figures-few PrintedExponent = omega arith
-figures-few (AreaTooShort n) = omega arith
+figures-few (OfPrint PrintedExponent) = omega arith
+figures-few (OfPrint (AreaTooShort n)) = omega arith
 
 -- every entry's figures stand in the eight entries behind their count, and entries past them keep what they held
 pub number-noted : (s before : List ℕ) → length before ≡ 8

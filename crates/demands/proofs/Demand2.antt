@@ -8,10 +8,10 @@ use Prim.Native.Nat.{ℕ}
 use lib.ListN.{length}
 use Rattle.decimal.proofs.Choices.{never}
 use Rattle.answer.specs.declared.Keyword.{Keyword}
-use Rattle.plural.specs.Words.{Chosen}
-use Rattle.plural.specs.declared.Selection.{Selection}
-use Rattle.plural.specs.declared.Selection.the-variants.{Word}
-use Rattle.select.specs.Select.{selectOf}
+use Rattle.select.specs.Words.{Chosen}
+use Rattle.select.specs.declared.Selection.{Selection}
+use Rattle.select.specs.declared.Selection.the-variants.{Word}
+use Rattle.select_text.specs.Select.{selectOf}
 use Rattle.print.specs.declared.Printed.{Printed}
 use Rattle.print.specs.declared.Printed.the-variants.{Text}
 use Rattle.print.specs.Outcome.{outcome, answerOf, areaOf}

@@ -1,6 +1,6 @@
 -- Demand 3: "The pack check passes exactly when no admitted number meets two rules; otherwise it names the first pair and the least number. Shuffling
 -- a passed pack changes no answer; adding rules changes only words that were "other"." Stated on bytes, over the definitions that the contracts of
--- `pack_check::check` and `select::select` cite.
+-- `check_text::check` and `select_text::select` cite.
 use mathlib.Core.Path.{_≡_, refl, sym, ap, _∙_, subst}
 use mathlib.Core.Bool.{Bool, true, false}
 use mathlib.Core.List.{List, [], _∷_, _++_, map, List·Permᴰ}
@@ -16,33 +16,34 @@ use Rattle.answer.specs.declared.Keyword.the-variants.{Other}
 use Rattle.answer.specs.declared.Pair.{Pair}
 use Rattle.answer.specs.declared.Witness.{Witness}
 use Rattle.answer.specs.declared.Refusal.{Refusal}
-use Rattle.answer.specs.declared.Refusal.the-variants.{RulesClash}
+use Rattle.answer.specs.declared.Refusal.the-variants.{Rules as OfRules}
+use Rattle.answer.specs.declared.RulesRow.the-variants.{RulesClash}
 use Rattle.number.specs.Reading.{readNumber}
 use Rattle.number.specs.Admitted.{Admitted, numberFrom}
 use Rattle.number.specs.declared.Number.{Number}
 use Rattle.number.specs.declared.Reading.{Reading}
 use Rattle.number.specs.declared.Reading.the-variants.{Is, Refused as NumberRefused}
 use Rattle.number.proofs.Admissible.{admitted, four-numbers}
-use Rattle.rules.specs.Syntax.{Rule}
-use Rattle.grammar.specs.Reader.{PackAnswer, readPack, segments}
-use Rattle.grammar.specs.Reader.PackAnswer.{Rules, Refused as PackRefused}
-use Rattle.grammar.specs.Segment.{AreRules, segmentRule}
-use Rattle.grammar.proofs.Shuffle.{perm-rules, rules-are, added-rules as read-added, shuffle as read-shuffle, larger as read-larger}
-use Rattle.plural.specs.Meaning.{meets}
-use Rattle.plural.specs.Select.{metBy, countMet, firstMet, secondMet, keywordAt, selection}
-use Rattle.plural.specs.Words.{MeetsAt}
-use Rattle.plural.specs.declared.Selection.{Selection}
-use Rattle.plural.specs.declared.Selection.the-variants.{Word}
-use Rattle.plural.proofs.Chosen.{counted, behind-counted, first-le, first-meets, second-meets, met-sign}
-use Rattle.clash_laws.specs.Check.{numberAt, checkOf}
-use Rattle.clash_laws.specs.Claims.{IsAdmitted, MeetsBoth, Apart, ruleAt, AllApart, Lowest, Claims}
-use Rattle.clash_laws.specs.declared.Checked.{Checked}
-use Rattle.clash_laws.specs.declared.Checked.the-variants.{Passes as RulesPass, Clashes}
-use Rattle.clash_laws.proofs.Claimed.{check-claims, passes-apart, apart-passes}
-use Rattle.pack_check.specs.Check.{checkedBy, checkRules, checkPack}
-use Rattle.pack_check.specs.declared.PackCheck.{PackCheck}
-use Rattle.pack_check.specs.declared.PackCheck.the-variants.{Passes, Refused}
-use Rattle.select.specs.Select.{selectNumber, selectRules, selectOf}
+use Rattle.pack_rules.specs.Syntax.{Rule}
+use Rattle.pack_grammar.specs.Reader.{PackAnswer, readPack, segments}
+use Rattle.pack_grammar.specs.Reader.PackAnswer.{Rules, Refused as PackRefused}
+use Rattle.pack_grammar.specs.Segment.{AreRules, segmentRule}
+use Rattle.pack_grammar.proofs.Shuffle.{perm-rules, rules-are, added-rules as read-added, shuffle as read-shuffle, larger as read-larger}
+use Rattle.meaning.specs.Meaning.{meets}
+use Rattle.select.specs.Select.{metBy, countMet, firstMet, secondMet, keywordAt, selection}
+use Rattle.select.specs.Words.{MeetsAt}
+use Rattle.select.specs.declared.Selection.{Selection}
+use Rattle.select.specs.declared.Selection.the-variants.{Word}
+use Rattle.select.proofs.Chosen.{counted, behind-counted, first-le, first-meets, second-meets, met-sign}
+use Rattle.check_laws.specs.Check.{numberAt, checkOf}
+use Rattle.check_laws.specs.Claims.{IsAdmitted, MeetsBoth, Apart, ruleAt, AllApart, Lowest, Claims}
+use Rattle.check_laws.specs.declared.Checked.{Checked}
+use Rattle.check_laws.specs.declared.Checked.the-variants.{Passes as RulesPass, Clashes}
+use Rattle.check_laws.proofs.Claimed.{check-claims, passes-apart, apart-passes}
+use Rattle.check_text.specs.Check.{checkedBy, checkRules, checkPack}
+use Rattle.check_text.specs.declared.PackCheck.{PackCheck}
+use Rattle.check_text.specs.declared.PackCheck.the-variants.{Passes, Refused}
+use Rattle.select_text.specs.Select.{selectNumber, selectRules, selectOf}
 use Rattle.demands.specs.Verdicts.{NumberVerdict, PackVerdict, SelectVerdict}
 use Rattle.demands.specs.Packs.{Passed, Shuffle, Larger, MeetsAdded, Grown}
 use Rattle.demands.proofs.Given.{number-given, number-found, pack-given, select-given, select-found}
@@ -63,22 +64,22 @@ passes-exactly pack rules v = passing pack rules (pack-given pack v)
 -- ---- (b) "the pair named is met by a single admitted number, every other such pair comes later, the number named meets both, and every other number that
 -- does comes later"
 
-pub names-the-first : (pack : List ℕ) (rules : List Rule) (pair : Pair) (x : Witness) → PackVerdict pack (Rules rules) → checkPack pack ≡ Refused (RulesClash pair x)
+pub names-the-first : (pack : List ℕ) (rules : List Rule) (pair : Pair) (x : Witness) → PackVerdict pack (Rules rules) → checkPack pack ≡ Refused (OfRules (RulesClash pair x))
     → (i : ℕ) × (j : ℕ) × (pair .first ≡ 1 + i) × (pair .second ≡ 1 + j) × Lowest rules i j x
 names-the-first pack rules pair x v c = subst (Claims 1 rules) (clashed (checkOf rules) (rw (pack-given pack v) at c)) (check-claims rules)
   where
-    clashed : (r : Checked) → checkedBy r ≡ Refused (RulesClash pair x) → r ≡ Clashes pair x
+    clashed : (r : Checked) → checkedBy r ≡ Refused (OfRules (RulesClash pair x)) → r ≡ Clashes pair x
     clashed RulesPass q = never (cc)
     clashed (Clashes p y) q = cc
 
 -- a pack that is read and does not pass gets 27: no other refusal is left
-pub else-27 : (pack : List ℕ) (rules : List Rule) → PackVerdict pack (Rules rules) → (Passed pack → ⊥) → (pair : Pair) × ((x : Witness) × (checkPack pack ≡ Refused (RulesClash pair x)))
+pub else-27 : (pack : List ℕ) (rules : List Rule) → PackVerdict pack (Rules rules) → (Passed pack → ⊥) → (pair : Pair) × ((x : Witness) × (checkPack pack ≡ Refused (OfRules (RulesClash pair x))))
 else-27 pack rules v n = by (checkOf rules) refl
   where
     e : readPack pack ≡ Rules rules
     e = pack-given pack v
 
-    by : (c : Checked) → checkOf rules ≡ c → (pair : Pair) × ((x : Witness) × (checkPack pack ≡ Refused (RulesClash pair x)))
+    by : (c : Checked) → checkOf rules ≡ c → (pair : Pair) × ((x : Witness) × (checkPack pack ≡ Refused (OfRules (RulesClash pair x))))
     by RulesPass q = absurd (n (rw (e, q)))
     by (Clashes pair x) q = (pair, (x, rw (e, q)))
 

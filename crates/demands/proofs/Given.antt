@@ -17,53 +17,53 @@ use Rattle.answer.specs.declared.Place.{Place}
 use Rattle.answer.specs.declared.Pair.{Pair}
 use Rattle.answer.specs.declared.Witness.{Witness}
 use Rattle.answer.specs.declared.Refusal.{Refusal}
-use Rattle.answer.specs.declared.Refusal.the-variants.{Number, PackTooLong, Pack, TwoRulesMet, RulesClash, Pattern as OfPattern, Symbols, PrintedExponent, AreaTooShort}
+use Rattle.answer.specs.declared.Refusal.the-variants.{Number, PackTooLong, Pack, Rules as OfRules, Pattern as OfPattern, Symbols, Print as OfPrint}
 use Rattle.number.specs.Reading.{readNumber}
 use Rattle.number.specs.declared.Number.{Number as Operands}
 use Rattle.number.specs.declared.Reading.{Reading}
 use Rattle.number.specs.declared.Reading.the-variants.{Is as NumberIs, Refused as NumberRefused}
 use Rattle.number.proofs.Table.{Told, given-if, read-if, told as number-told}
 use Rattle.number.proofs.Table.Told.{row as told-row, number as told-number}
-use Rattle.rules.specs.Syntax.{Rule}
-use Rattle.grammar.specs.Limits.{maxBytes}
-use Rattle.grammar.specs.Reader.{Parsed, Fault, PackAnswer, refusedAt, rowOf, judge, readPack, rulesFrom, faultFrom, segments}
-use Rattle.grammar.specs.Reader.Parsed.{Trees, Bad}
-use Rattle.grammar.specs.Reader.Fault.{None, At}
-use Rattle.grammar.specs.Reader.PackAnswer.{Rules, Refused as PackRefused}
-use Rattle.grammar.proofs.Table.{row-20, row-21, rows-22-26, read-rules}
-use Rattle.plural.specs.Select.{selection}
-use Rattle.plural.specs.declared.Selection.{Selection}
-use Rattle.plural.specs.declared.Selection.the-variants.{Refused as SelectionRefused}
-use Rattle.plural.proofs.Chosen.{told, only-told}
-use Rattle.select.specs.Select.{selectNumber, selectRules, selectOf}
-use Rattle.clash_laws.specs.Check.{checkOf}
-use Rattle.clash_laws.specs.Claims.{AllApart, Before, Claims, Lowest}
-use Rattle.clash_laws.specs.declared.Checked.{Checked}
-use Rattle.clash_laws.specs.declared.Checked.the-variants.{Passes as RulesPass, Clashes}
-use Rattle.clash_laws.proofs.Claimed.{check-claims, apart-passes}
-use Rattle.pack_check.specs.Check.{checkedBy, checkRules, checkPack}
-use Rattle.pack_check.specs.declared.PackCheck.{PackCheck}
-use Rattle.pack_check.specs.declared.PackCheck.the-variants.{Passes, Refused as CheckRefused}
+use Rattle.pack_rules.specs.Syntax.{Rule}
+use Rattle.pack_grammar.specs.Limits.{maxBytes}
+use Rattle.pack_grammar.specs.Reader.{Parsed, Fault, PackAnswer, refusedAt, rowOf, judge, readPack, rulesFrom, faultFrom, segments}
+use Rattle.pack_grammar.specs.Reader.Parsed.{Trees, Bad}
+use Rattle.pack_grammar.specs.Reader.Fault.{None, At}
+use Rattle.pack_grammar.specs.Reader.PackAnswer.{Rules, Refused as PackRefused}
+use Rattle.pack_grammar.proofs.Table.{row-20, row-21, rows-22-26, read-rules}
+use Rattle.select.specs.Select.{selection}
+use Rattle.select.specs.declared.Selection.{Selection}
+use Rattle.select.specs.declared.Selection.the-variants.{Refused as SelectionRefused}
+use Rattle.select.proofs.Chosen.{told, only-told}
+use Rattle.select_text.specs.Select.{selectNumber, selectRules, selectOf}
+use Rattle.check_laws.specs.Check.{checkOf}
+use Rattle.check_laws.specs.Claims.{AllApart, Before, Claims, Lowest}
+use Rattle.check_laws.specs.declared.Checked.{Checked}
+use Rattle.check_laws.specs.declared.Checked.the-variants.{Passes as RulesPass, Clashes}
+use Rattle.check_laws.proofs.Claimed.{check-claims, apart-passes}
+use Rattle.check_text.specs.Check.{checkedBy, checkRules, checkPack}
+use Rattle.check_text.specs.declared.PackCheck.{PackCheck}
+use Rattle.check_text.specs.declared.PackCheck.the-variants.{Passes, Refused as CheckRefused}
 use Rattle.symbols.specs.declared.Symbol.{Symbol}
 use Rattle.symbols.specs.declared.Judged.the-variants.{Good, Refused as SymbolsRefused}
 use Rattle.symbols.specs.Entries.{symbolIn, standardRecord, readSymbols}
 use Rattle.symbols_grammar.specs.Record.{Verdict as SymbolsVerdict}
 use Rattle.symbols_grammar.proofs.Records.{verdict-given as symbols-given, verdict-found as symbols-found, symbol-is}
-use Rattle.pattern.specs.declared.Pattern.{Pattern}
-use Rattle.pattern.specs.declared.PatternReading.the-variants.{Is as PatternIs, Refused as PatternRefused}
-use Rattle.pattern.specs.Reading.{readPattern}
+use Rattle.pattern_reader.specs.declared.Pattern.{Pattern}
+use Rattle.pattern_reader.specs.declared.PatternReading.the-variants.{Is as PatternIs, Refused as PatternRefused}
+use Rattle.pattern_reader.specs.Reading.{readPattern}
 use Rattle.pattern_grammar.specs.Verdict.{Verdict as PatternVerdict}
 use Rattle.pattern_grammar.proofs.Verdicts.{verdict-given as pattern-given, verdict-found as pattern-found}
 use Rattle.layout.specs.Text.{textOf}
-use Rattle.print.specs.Text.{PrintedText}
+use Rattle.print_grammar.specs.Text.{PrintedText}
 use Rattle.print.specs.declared.Printed.{Printed}
 use Rattle.print.specs.declared.Printed.the-variants.{Text, Refused as PrintRefused}
 use Rattle.print.specs.Outcome.{Outcome, outcome, answerOf, areaOf}
 use Rattle.print.specs.Outcome.Outcome.{text as ToText, refused as ToRefuse}
-use Rattle.print.specs.Claims.{Read, Verdict}
-use Rattle.print.specs.Claims.Verdict.{by-symbols as outcome-by-symbols, by-pattern as outcome-by-pattern, by-number as outcome-by-number, by-exponent as outcome-by-exponent, prints as outcome-prints}
-use Rattle.print.proofs.Theorems.{verdict-found, verdict-only}
-use Rattle.print.proofs.Texts.{printed-text}
+use Rattle.print_grammar.specs.Claims.{Read, Verdict}
+use Rattle.print_grammar.specs.Claims.Verdict.{by-symbols as outcome-by-symbols, by-pattern as outcome-by-pattern, by-number as outcome-by-number, by-exponent as outcome-by-exponent, prints as outcome-prints}
+use Rattle.print_grammar.proofs.Theorems.{verdict-found, verdict-only}
+use Rattle.print_grammar.proofs.Texts.{printed-text}
 use Rattle.demands.specs.Verdicts.{NumberVerdict, PackVerdict, SelectVerdict, CheckVerdict, Printable, PrintVerdict}
 use Rattle.demands.specs.Verdicts.NumberVerdict.{row, read}
 use Rattle.demands.specs.Verdicts.PackVerdict.{too-long, not-a-pack, faulty, read as read-pack}
@@ -91,12 +91,10 @@ abbrev ofPack : Refusal → Bool
 ofPack (Number r) = false
 ofPack PackTooLong = true
 ofPack (Pack r at) = true
-ofPack (TwoRulesMet pair) = false
-ofPack (RulesClash pair x) = false
+ofPack (OfRules r) = false
 ofPack (OfPattern r) = false
 ofPack (Symbols r) = false
-ofPack PrintedExponent = false
-ofPack (AreaTooShort n) = false
+ofPack (OfPrint r) = false
 
 abbrev isPack : PackAnswer → Bool
 isPack (Rules rules) = true
@@ -139,12 +137,10 @@ pack-found s = by (readPack s) refl
     refused PackTooLong e = too-long (row-20 s .0 e)
     refused (Pack r at) e = by-row r at e
     refused (Number r) e = other (Number r) e refl
-    refused (TwoRulesMet pair) e = other (TwoRulesMet pair) e refl
-    refused (RulesClash pair x) e = other (RulesClash pair x) e refl
+    refused (OfRules r) e = other (OfRules r) e refl
     refused (OfPattern r) e = other (OfPattern r) e refl
     refused (Symbols r) e = other (Symbols r) e refl
-    refused PrintedExponent e = other PrintedExponent e refl
-    refused (AreaTooShort n) e = other (AreaTooShort n) e refl
+    refused (OfPrint r) e = other (OfPrint r) e refl
 
     by : (a : PackAnswer) → readPack s ≡ a → PackVerdict s a
     by (Rules rules) e = read-pack rules (read-rules s rules .0 e)

@@ -6,11 +6,11 @@ use lib.ListN.{length, drop}
 use Rattle.answer.specs.declared.Keyword.{Keyword}
 use Rattle.number.specs.declared.Number.{Number}
 use Rattle.number.specs.declared.Reading.the-variants.{Is as NumberIs}
-use Rattle.rules.specs.Syntax.{Rule}
-use Rattle.grammar.specs.Reader.PackAnswer.{Rules}
-use Rattle.plural.specs.Words.{Chosen}
-use Rattle.plural.specs.declared.Selection.the-variants.{Word}
-use Rattle.pattern.specs.declared.Pattern.{Pattern}
+use Rattle.pack_rules.specs.Syntax.{Rule}
+use Rattle.pack_grammar.specs.Reader.PackAnswer.{Rules}
+use Rattle.select.specs.Words.{Chosen}
+use Rattle.select.specs.declared.Selection.the-variants.{Word}
+use Rattle.pattern_reader.specs.declared.Pattern.{Pattern}
 use Rattle.demands.specs.Verdicts.{NumberVerdict, PackVerdict, Printable}
 
 -- the word: of a pack and a number that are read, by the rules that the number meets

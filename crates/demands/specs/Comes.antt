@@ -8,8 +8,8 @@ use Rattle.answer.specs.declared.Keyword.{Keyword}
 use Rattle.answer.specs.declared.Refusal.{Refusal}
 use Rattle.number.specs.declared.Number.{Number}
 use Rattle.number.specs.declared.Reading.the-variants.{Is as NumberIs, Refused as NumberRefused}
-use Rattle.plural.specs.declared.Selection.the-variants.{Word, Refused as SelectionRefused}
-use Rattle.pack_check.specs.declared.PackCheck.the-variants.{Passes, Refused as CheckRefused}
+use Rattle.select.specs.declared.Selection.the-variants.{Word, Refused as SelectionRefused}
+use Rattle.check_text.specs.declared.PackCheck.the-variants.{Passes, Refused as CheckRefused}
 use Rattle.print.specs.declared.Printed.the-variants.{Text, Refused as PrintRefused}
 use Rattle.screen.specs.Entries.{operandsOf, wordNumber}
 use Rattle.demands.specs.Verdicts.{NumberVerdict, SelectVerdict, CheckVerdict, PrintVerdict}

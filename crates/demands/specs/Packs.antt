@@ -6,14 +6,14 @@ use Rattle.answer.specs.declared.Keyword.{Keyword}
 use Rattle.answer.specs.declared.Keyword.the-variants.{Other}
 use Rattle.number.specs.declared.Number.{Number}
 use Rattle.number.specs.declared.Reading.the-variants.{Is as NumberIs}
-use Rattle.rules.specs.Syntax.{Rule}
-use Rattle.grammar.specs.Reader.{segments}
-use Rattle.plural.specs.Words.{MeetsAt}
-use Rattle.plural.specs.declared.Selection.{Selection}
-use Rattle.plural.specs.declared.Selection.the-variants.{Word}
-use Rattle.select.specs.Select.{selectOf}
-use Rattle.pack_check.specs.Check.{checkPack}
-use Rattle.pack_check.specs.declared.PackCheck.the-variants.{Passes}
+use Rattle.pack_rules.specs.Syntax.{Rule}
+use Rattle.pack_grammar.specs.Reader.{segments}
+use Rattle.select.specs.Words.{MeetsAt}
+use Rattle.select.specs.declared.Selection.{Selection}
+use Rattle.select.specs.declared.Selection.the-variants.{Word}
+use Rattle.select_text.specs.Select.{selectOf}
+use Rattle.check_text.specs.Check.{checkPack}
+use Rattle.check_text.specs.declared.PackCheck.the-variants.{Passes}
 use Rattle.demands.specs.Verdicts.{NumberVerdict, SelectVerdict}
 
 -- "A passed pack is one the check doesn't refuse."

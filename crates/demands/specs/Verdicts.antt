@@ -10,33 +10,35 @@ use Rattle.answer.specs.declared.PackRow.the-variants.{NotAPack}
 use Rattle.answer.specs.declared.Pair.{Pair}
 use Rattle.answer.specs.declared.Witness.{Witness}
 use Rattle.answer.specs.declared.Refusal.{Refusal}
-use Rattle.answer.specs.declared.Refusal.the-variants.{PackTooLong, RulesClash, PrintedExponent, AreaTooShort}
+use Rattle.answer.specs.declared.Refusal.the-variants.{PackTooLong, Rules as OfRules, Print as OfPrint}
+use Rattle.answer.specs.declared.RulesRow.the-variants.{RulesClash}
+use Rattle.answer.specs.declared.PrintRow.the-variants.{PrintedExponent, AreaTooShort}
 use Rattle.number.specs.Grammar.{Parts}
 use Rattle.number.specs.Reading.{numberOf, refuse}
 use Rattle.number.specs.Table.{Row, Past15}
 use Rattle.number.specs.declared.Number.{Number}
 use Rattle.number.specs.declared.Reading.{Reading}
 use Rattle.number.specs.declared.Reading.the-variants.{Is as NumberIs, Refused as NumberRefused}
-use Rattle.rules.specs.Syntax.{Rule}
-use Rattle.token.specs.Token.{tokens}
-use Rattle.grammar.specs.Limits.{maxBytes}
-use Rattle.grammar.specs.Reader.{PackAnswer, refusedAt, rowOf}
-use Rattle.grammar.specs.Reader.PackAnswer.{Rules, Refused as PackRefused}
-use Rattle.grammar.specs.WellFormed.{Culprit, Unfinished}
-use Rattle.grammar.specs.Falls.{Faulty, Tree}
-use Rattle.plural.specs.Words.{Chosen}
-use Rattle.plural.specs.declared.Selection.{Selection}
-use Rattle.plural.specs.declared.Selection.the-variants.{Refused as SelectionRefused}
-use Rattle.clash_laws.specs.Claims.{AllApart, Lowest}
-use Rattle.pack_check.specs.declared.PackCheck.{PackCheck}
-use Rattle.pack_check.specs.declared.PackCheck.the-variants.{Passes, Refused as CheckRefused}
+use Rattle.pack_rules.specs.Syntax.{Rule}
+use Rattle.pack_token.specs.Token.{tokens}
+use Rattle.pack_grammar.specs.Limits.{maxBytes}
+use Rattle.pack_grammar.specs.Reader.{PackAnswer, refusedAt, rowOf}
+use Rattle.pack_grammar.specs.Reader.PackAnswer.{Rules, Refused as PackRefused}
+use Rattle.pack_grammar.specs.WellFormed.{Culprit, Unfinished}
+use Rattle.pack_grammar.specs.Falls.{Faulty, Tree}
+use Rattle.select.specs.Words.{Chosen}
+use Rattle.select.specs.declared.Selection.{Selection}
+use Rattle.select.specs.declared.Selection.the-variants.{Refused as SelectionRefused}
+use Rattle.check_laws.specs.Claims.{AllApart, Lowest}
+use Rattle.check_text.specs.declared.PackCheck.{PackCheck}
+use Rattle.check_text.specs.declared.PackCheck.the-variants.{Passes, Refused as CheckRefused}
 use Rattle.symbols.specs.declared.Symbol.{Symbol}
 use Rattle.symbols.specs.declared.Judged.the-variants.{Good, Refused as SymbolsRefused}
 use Rattle.symbols_grammar.specs.Record.{Verdict as SymbolsVerdict, SymbolIs}
-use Rattle.pattern.specs.declared.Pattern.{Pattern}
-use Rattle.pattern.specs.declared.PatternReading.the-variants.{Is as PatternIs, Refused as PatternRefused}
+use Rattle.pattern_reader.specs.declared.Pattern.{Pattern}
+use Rattle.pattern_reader.specs.declared.PatternReading.the-variants.{Is as PatternIs, Refused as PatternRefused}
 use Rattle.pattern_grammar.specs.Verdict.{Verdict as PatternVerdict}
-use Rattle.print.specs.Text.{PrintedText}
+use Rattle.print_grammar.specs.Text.{PrintedText}
 use Rattle.print.specs.declared.Printed.{Printed}
 use Rattle.print.specs.declared.Printed.the-variants.{Text, Refused as PrintRefused}
 
@@ -73,7 +75,7 @@ pub data CheckVerdict (pack : List ℕ) : PackCheck → Type 0 where
   by-pack : (r : Refusal) → PackVerdict pack (PackRefused r) → CheckVerdict pack (CheckRefused r)
   passes : (rules : List Rule) → PackVerdict pack (Rules rules) → AllApart rules → CheckVerdict pack Passes
   clashes : (rules : List Rule) (i j : ℕ) (pair : Pair) (x : Witness) → PackVerdict pack (Rules rules) → pair .first ≡ 1 + i → pair .second ≡ 1 + j
-      → Lowest rules i j x → CheckVerdict pack (CheckRefused (RulesClash pair x))
+      → Lowest rules i j x → CheckVerdict pack (CheckRefused (OfRules (RulesClash pair x)))
 
 -- ---- "Printing tests symbols, pattern, number, 50, 51." The answer, and what the output area holds behind it: "A refusal writes nothing; a success
 -- writes its text at the front and no byte beyond, and returns its length."
@@ -95,8 +97,8 @@ pub data PrintVerdict (house s t area : List ℕ) : Printed → List ℕ → Typ
   by-number : (p : Pattern) (r : Refusal) → SymbolsVerdict house Good → PatternVerdict s (PatternIs p) → NumberVerdict t (NumberRefused r)
       → PrintVerdict house s t area (PrintRefused r) area
   by-exponent : (p : Pattern) (n : Number) → SymbolsVerdict house Good → PatternVerdict s (PatternIs p) → NumberVerdict t (NumberIs n) → 0 < n .e
-      → PrintVerdict house s t area (PrintRefused PrintedExponent) area
+      → PrintVerdict house s t area (PrintRefused (OfPrint PrintedExponent)) area
   too-short : (p : Pattern) (n : Number) (text : List ℕ) → Printable house s t p n text → length area < length text
-      → PrintVerdict house s t area (PrintRefused (AreaTooShort (length text))) area
+      → PrintVerdict house s t area (PrintRefused (OfPrint (AreaTooShort (length text)))) area
   prints : (p : Pattern) (n : Number) (text : List ℕ) → Printable house s t p n text → length text ≤ length area
       → PrintVerdict house s t area (Text (length text)) (text ++ drop (length text) area)

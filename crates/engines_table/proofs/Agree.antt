@@ -8,13 +8,13 @@ use borrow.Author.Tests.{eqb-true, eq-eqb, ne-eqb}
 use Rattle.decimal.specs.Choice.{both}
 use Rattle.answer.specs.declared.Pair.{Pair}
 use Rattle.answer.specs.declared.Witness.{Witness}
-use Rattle.rules.specs.Held.{Pack, heldRules}
-use Rattle.clash_laws.specs.Check.{checkOf}
-use Rattle.clash_laws.specs.declared.Checked.{Checked}
-use Rattle.clash_laws.specs.declared.Checked.the-variants.{Passes, Clashes}
+use Rattle.pack_rules.specs.Held.{Pack, heldRules}
+use Rattle.check_laws.specs.Check.{checkOf}
+use Rattle.check_laws.specs.declared.Checked.{Checked}
+use Rattle.check_laws.specs.declared.Checked.the-variants.{Passes, Clashes}
 use Rattle.engines_table.specs.Same.{samePair, sameNumber, sameClash, sameAnswer}
 
--- For every pack, what `clash::check` returns and what `plain_check::check` returns are equal: each is what its contract says.
+-- For every pack, what `check_pairs::check` returns and what `check_plain::check` returns are equal: each is what its contract says.
 pub engines-agree : (p : Pack) (fast plain : Checked) → fast ≡ checkOf (heldRules p) → plain ≡ checkOf (heldRules p) → fast ≡ plain
 engines-agree p fast plain f g = f ∙ sym g
 

@@ -4,8 +4,8 @@ use lib.Dec.{eqb}
 use Rattle.decimal.specs.Choice.{both}
 use Rattle.answer.specs.declared.Pair.{Pair}
 use Rattle.answer.specs.declared.Witness.{Witness}
-use Rattle.clash_laws.specs.declared.Checked.{Checked}
-use Rattle.clash_laws.specs.declared.Checked.the-variants.{Passes, Clashes}
+use Rattle.check_laws.specs.declared.Checked.{Checked}
+use Rattle.check_laws.specs.declared.Checked.the-variants.{Passes, Clashes}
 
 abbrev pub samePair : Pair → Pair → Bool
 samePair a b = both (eqb (a .first) (b .first)) (eqb (a .second) (b .second))

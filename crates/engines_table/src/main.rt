@@ -3,16 +3,21 @@
 // is not read gets `!` and the number and place of its refusal.
 ghost use mathlib.Core.Path.{_≡_};
 ghost use Rattle.decimal.specs.Choice.{both};
-ghost use Rattle.rules.specs.Held.{heldRules, lent};
-ghost use Rattle.clash_laws.specs.Check.{checkOf};
+ghost use Rattle.pack_rules.specs.Held.{heldRules, lent};
+ghost use Rattle.check_laws.specs.Check.{checkOf};
 ghost use Rattle.engines_table.specs.Same.{samePair, sameNumber, sameClash, sameAnswer};
 use answer::Pair;
 use answer::Refusal;
 use answer::Witness;
-use clash_laws::Checked;
+use check_laws::Checked;
 use libc::STDIN_FILENO;
 use libc::STDOUT_FILENO;
-use pack::Read;
+use pack_reader::Read;
+use pack_rules::ClauseEnds;
+use pack_rules::Columns;
+use pack_rules::Keywords;
+use pack_rules::RangeEnds;
+use pack_rules::RuleEnds;
 
 // What the two engines answer for one pack.
 pub struct Answers {
@@ -22,18 +27,18 @@ pub struct Answers {
 
 // Both answers: they are equal, for every pack.
 fn ask_both<'a>(
-    columns: &'a [u32; 1280],
-    low: &'a [u32; 2048],
-    high: &'a [u32; 2048],
-    relations: &'a [usize; 40],
-    keyword: &'a [u8; 6],
-    clauses: &'a [usize; 6],
+    columns: &'a Columns,
+    low: &'a RangeEnds,
+    high: &'a RangeEnds,
+    relations: &'a ClauseEnds,
+    keyword: &'a Keywords,
+    clauses: &'a RuleEnds,
     count: usize,
 ) -> Answers
     ensures { λ r. ⌜ (r .fast ≡ r .plain) × (r .plain ≡ checkOf (heldRules (lent (now (low .entry)) (now (high .entry)) (now (columns .entry)) (now (relations .entry)) (now (keyword .entry)) (now (clauses .entry)) count))) ⌝ }
 {
-    let fast = clash::check(columns, low, high, relations, keyword, clauses, count);
-    let plain = plain_check::check(columns, low, high, relations, keyword, clauses, count);
+    let fast = check_pairs::check(columns, low, high, relations, keyword, clauses, count);
+    let plain = check_plain::check(columns, low, high, relations, keyword, clauses, count);
     Answers {
         fast: fast,
         plain: plain,
@@ -161,13 +166,13 @@ fn print_refusal(r: Refusal) {
 }
 
 fn print_check(pack: &[u8]) {
-    let mut low: [u32; 2048] = [0; 2048];
-    let mut high: [u32; 2048] = [0; 2048];
-    let mut columns: [u32; 1280] = [0; 1280];
-    let mut relations: [usize; 40] = [0; 40];
-    let mut keyword: [u8; 6] = [0; 6];
-    let mut clauses: [usize; 6] = [0; 6];
-    let read = pack::read_pack(
+    let mut low: RangeEnds = [0; 2048];
+    let mut high: RangeEnds = [0; 2048];
+    let mut columns: Columns = [0; 1280];
+    let mut relations: ClauseEnds = [0; 40];
+    let mut keyword: Keywords = [0; 6];
+    let mut clauses: RuleEnds = [0; 6];
+    let read = pack_reader::read_pack(
         pack,
         &mut low,
         &mut high,

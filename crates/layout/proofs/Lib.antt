@@ -1,5 +1,3 @@
 pub mod Writing
-pub mod Shown
-pub mod Groups
 pub mod Plain
 pub mod Spelling

@@ -10,8 +10,8 @@ use lib.Dec.{ltb, eqb}
 use lib.ListN.{length, getD, drop, drop-of-length-le}
 use lib.Seq.{drop-cons}
 use Rattle.decimal.proofs.Choices.{tested, not-both}
-use Rattle.lexer.specs.declared.Item.the-variants.{Text}
-use Rattle.lexer.specs.Items.{tokenAt, token, itemsFrom}
+use Rattle.pattern_token.specs.declared.Item.the-variants.{Text}
+use Rattle.pattern_token.specs.Items.{tokenAt, token, itemsFrom}
 use Rattle.symbols.specs.declared.Symbol.{Symbol}
 use Rattle.layout.specs.Text.{rendered}
 use Rattle.layout.specs.Plain.{isPlain, plain}

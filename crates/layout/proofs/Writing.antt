@@ -13,13 +13,13 @@ use Rattle.decimal.specs.Choice.{if_then_else_}
 use Rattle.decimal.specs.Digits.{lead, trim}
 use Rattle.area.specs.Area.{Wrote, most}
 use Rattle.area.proofs.Pieces.{Left, again}
-use Rattle.lexer.specs.declared.Token.{Token}
-use Rattle.lexer.specs.Items.{tokenAt, itemsFrom, items, quotedAfter, isNumber}
-use Rattle.lexer.proofs.ItemLaws.{items-step}
+use Rattle.pattern_token.specs.declared.Token.{Token}
+use Rattle.pattern_token.specs.Items.{tokenAt, itemsFrom, items, quotedAfter, isNumber}
+use Rattle.pattern_token.proofs.ItemLaws.{items-step}
 use Rattle.symbols.specs.declared.Symbol.{Symbol}
 use Rattle.symbols.specs.declared.Symbol.the-variants.{Decimal, Group}
-use Rattle.pattern.specs.declared.Span.{Span}
-use Rattle.pattern.specs.declared.Pattern.{Pattern}
+use Rattle.pattern_reader.specs.declared.Span.{Span}
+use Rattle.pattern_reader.specs.declared.Pattern.{Pattern}
 use Rattle.layout.specs.Layout.{wholeDigits, fractionDigits, zeroDigit, spell, mark, grouped, body}
 use Rattle.layout.specs.Text.{render, rendered, affixText, numberText}
 

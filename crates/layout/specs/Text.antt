@@ -5,19 +5,19 @@ use Prim.Native.Nat.{ℕ}
 use lib.ListN.{take, drop}
 use Rattle.decimal.specs.Choice.{if_then_else_}
 use Rattle.decimal.specs.Digits.{figures}
-use Rattle.lexer.specs.declared.Mark.{Mark}
-use Rattle.lexer.specs.declared.Mark.the-variants.{Minus as MinusMark, Plus as PlusMark, Percent as PercentMark, Permille as PermilleMark}
-use Rattle.lexer.specs.declared.Item.{Item}
-use Rattle.lexer.specs.declared.Item.the-variants.{Text, Symbol as SymbolItem, Place, Quote, Semicolon, Reserved}
-use Rattle.lexer.specs.Items.{items}
+use Rattle.pattern_token.specs.declared.Mark.{Mark}
+use Rattle.pattern_token.specs.declared.Mark.the-variants.{Minus as MinusMark, Plus as PlusMark, Percent as PercentMark, Permille as PermilleMark}
+use Rattle.pattern_token.specs.declared.Item.{Item}
+use Rattle.pattern_token.specs.declared.Item.the-variants.{Text, Symbol as SymbolItem, Place, Quote, Semicolon, Reserved}
+use Rattle.pattern_token.specs.Items.{items}
 use Rattle.symbols.specs.declared.Symbol.{Symbol}
 use Rattle.symbols.specs.declared.Symbol.the-variants.{Decimal, Group, Minus, Plus, Percent, Permille}
-use Rattle.pattern.specs.declared.Span.{Span}
-use Rattle.pattern.specs.declared.Negative.{Negative}
-use Rattle.pattern.specs.declared.Negative.the-variants.{MinusSymbol, Own}
-use Rattle.pattern.specs.declared.Pattern.{Pattern}
+use Rattle.pattern_reader.specs.declared.Span.{Span}
+use Rattle.pattern_reader.specs.declared.Negative.{Negative}
+use Rattle.pattern_reader.specs.declared.Negative.the-variants.{MinusSymbol, Own}
+use Rattle.pattern_reader.specs.declared.Pattern.{Pattern}
 use Rattle.number.specs.declared.Number.{Number}
-use Rattle.rounding.specs.Nearest.{unitsOf}
+use Rattle.nearest.specs.Nearest.{unitsOf}
 use Rattle.rounding.specs.Limits.{width}
 use Rattle.layout.specs.declared.Affixes.{Affixes}
 use Rattle.layout.specs.Layout.{wholeDigits, fractionDigits, zeroDigit, body}

@@ -9,16 +9,16 @@ ghost use mathlib.Core.List.{[]};
 ghost use Prim.Native.Nat.{_-_, max, min};
 ghost use Rattle.decimal.specs.Choice.{if_then_else_};
 ghost use Rattle.area.specs.Area.{Wrote};
-ghost use Rattle.lexer.specs.Items.{items};
+ghost use Rattle.pattern_token.specs.Items.{items};
 ghost use Rattle.symbols.specs.Entries.{symbolIn, standardRecord};
 ghost use Rattle.layout.specs.Layout.{wholeDigits, fractionDigits, zeroDigit, spell, mark, grouped, pointed};
 ghost use Rattle.layout.specs.Plain.{isPlain, plain};
 ghost use Rattle.layout.specs.Text.{symbolOf, render, rendered, affixText, negativeAffixes, affixesOf, numberText, laidOut};
-use lexer::Item;
-use lexer::Mark;
-use pattern::Negative;
-use pattern::Pattern;
-use pattern::Span;
+use pattern_reader::Negative;
+use pattern_reader::Pattern;
+use pattern_reader::Span;
+use pattern_token::Item;
+use pattern_token::Mark;
 use symbols::Symbol;
 
 // A number's affixes: whether the minus symbol stands before them, and where they stand in the
@@ -134,11 +134,11 @@ fn append_items(out: &mut [u8], at: usize, house: &[u8], s: &[u8]) -> usize
     let mut k = at;
     let mut i = 0;
     while i < s.len() {
-        let t = lexer::token_in(s, i, quoted, number);
+        let t = pattern_token::token_in(s, i, quoted, number);
         let item = t.item;
         k = append_item(out, k, house, item);
-        quoted = lexer::quoted_after(quoted, item);
-        number = lexer::is_number(item);
+        quoted = pattern_token::quoted_after(quoted, item);
+        number = pattern_token::is_number(item);
         i += t.width;
     }
     k

@@ -9,16 +9,12 @@ use borrow.Author.Tests.{ltb-true, ltb-false, lt-ltb, le-ltb, eqb-true, eqb-fals
 use lib.ListN.{length, getD, take, drop}
 use Rattle.decimal.specs.Choice.{if_then_else_, both}
 use Rattle.decimal.specs.Split.{until, onFirst, split}
-use Rattle.decimal.proofs.Choices.{tested, choices, not-both}
+use Rattle.decimal.proofs.Choices.{tested, choices, not-both, both-false}
 use Rattle.decimal.proofs.Splits.{until-le, split-one, split-first}
 use Rattle.line.specs.Jobs.{Job, isJob, jobIn, jobOf, jobAt, jobWith, lastField}
 use Rattle.line.specs.Jobs.Job.{select, check, format, none}
 use Rattle.line.specs.declared.JobCut.{JobCut}
 use Rattle.line.specs.declared.JobCut.the-variants.{SelectAt, CheckAt, FormatAt, Unknown}
-
-both-false : (x : Bool) → both x false ≡ false
-both-false true = refl
-both-false false = refl
 
 -- a first field that is no single letter makes no job
 no-letter : (f : List ℕ) (fs : List (List ℕ)) → (length f ≡ 1 → ⊥) → jobIn (f ∷ fs) ≡ none

@@ -12,9 +12,9 @@ use borrow.Author.Tests.{eq-eqb, ne-eqb, eqb-true, eqb-false}
 use lib.ListN.{length, getD, take, drop, length-append}
 use lib.Seq.{drop-at}
 use Rattle.decimal.specs.Choice.{if_then_else_}
-use Rattle.decimal.specs.Digits.{run, valueFrom, value, first, trim, figures, numeral, wide, AllDigits}
+use Rattle.decimal.specs.Digits.{run, valueFrom, value, first, trim, figures, numeral, wide, AllDigits, isDigit}
 use Rattle.decimal.proofs.Choices.{tested}
-use Rattle.decimal.proofs.Runs.{digits-append, digits-drop}
+use Rattle.decimal.proofs.Runs.{of-append, of-drop}
 use Rattle.decimal.proofs.Values.{value-append, value-from, value-lt, value-scales, digits-first, length-first, first-append, power-pos, power-mono}
 use Rattle.decimal.proofs.Zeros.{value-below}
 use Rattle.decimal.proofs.Figured.{length-figures, digits-figures, value-figures, figures-of, value-numeral, digits-numeral, numeral-some, numeral-short, numeral-head}
@@ -32,10 +32,10 @@ use Rattle.number.proofs.Table.{reads, read-if}
 -- ---- every number read is admitted
 
 integer-digits : (s : List ℕ) (p : Parts) → Spells s p → AllDigits (integerDigits p)
-integer-digits s p h = digits-append (p .whole) (first (shiftOf p) (p .fraction)) (h .whole-digits) (digits-first (shiftOf p) (p .fraction) (h .fraction-digits))
+integer-digits s p h = of-append isDigit (p .whole) (first (shiftOf p) (p .fraction)) (h .whole-digits) (digits-first (shiftOf p) (p .fraction) (h .fraction-digits))
 
 fraction-digits : (s : List ℕ) (p : Parts) → Spells s p → AllDigits (fractionDigits p)
-fraction-digits s p h = digits-drop (shiftOf p) (p .fraction) (h .fraction-digits)
+fraction-digits s p h = of-drop isDigit (shiftOf p) (p .fraction) (h .fraction-digits)
 
 written : (x : List ℕ) → 0 < value x → 0 < length x
 written [] h = omega arith
@@ -184,7 +184,7 @@ module _ (negative : Bool) (e v i f : ℕ) (a : Admitted e v i f) where
         text = refl;
         whole-digits = digits-figures maxDigits (i / 10 ^ e);
         whole-written = omega (arith, length-figures maxDigits (i / 10 ^ e));
-        fraction-digits = digits-append back (figures v f) (digits-figures e (i % 10 ^ e)) (digits-figures v f);
+        fraction-digits = of-append isDigit back (figures v f) (digits-figures e (i % 10 ^ e)) (digits-figures v f);
         exponent-digits = exponent-right;
       }
 

@@ -8,9 +8,9 @@ use borrow.Author.Tests.{eqb-true}
 use lib.Dec.{eqb}
 use lib.ListN.{length, take, drop}
 use Rattle.decimal.specs.Choice.{if_then_else_, both}
-use Rattle.decimal.specs.Digits.{begins, run, AllDigits}
+use Rattle.decimal.specs.Digits.{begins, run, AllDigits, isDigit}
 use Rattle.decimal.proofs.Choices.{tested}
-use Rattle.decimal.proofs.Runs.{nil-of-length, digits-run}
+use Rattle.decimal.proofs.Runs.{nil-of-length, of-run}
 use Rattle.number.specs.Grammar.{isTail}
 use Rattle.number.specs.Reading.{partsFrom, exponentAt, pointAt, wholeAt, partsOf}
 
@@ -29,7 +29,7 @@ point-cut negative true whole s t k n e ek et en = rw (← e, en, et, ek)
 point-cut negative false whole s t k n e ek et en = rw (← e, en, et, ek)
 
 pub point-digits : (on : Bool) (t : List ℕ) (n : ℕ) → n ≡ (if on then run t else 0) → AllDigits (take n t)
-point-digits true t n e = rw e (digits-run t)
+point-digits true t n e = rw e (of-run isDigit t)
 point-digits false t n e = rw e
 
 -- t is s without its sign

@@ -13,8 +13,8 @@ use lib.ListN.{length, getD, take, drop, take-append-drop}
 use lib.Seq.{length-take-le, take-at, drop-at}
 use Rattle.decimal.specs.Choice.{if_then_else_, both}
 use Rattle.decimal.specs.Digits.{isDigit, begins, run, AllDigits}
-use Rattle.decimal.proofs.Choices.{choice, tested, not-both, never}
-use Rattle.decimal.proofs.Runs.{run-le, run-append, digits-run, digits-head, digit-bounds}
+use Rattle.decimal.proofs.Choices.{choice, tested, not-both, never, both-true}
+use Rattle.decimal.proofs.Runs.{run-le, run-append, of-run, of-head, digit-bounds}
 use Rattle.number.specs.Grammar.{Parts, Spells, isMark, isExponent, signText, marked, textOf}
 use Rattle.number.specs.Reading.{partsFrom, exponentAt, fractionAt, pointAt, wholeAt, partsOf}
 
@@ -39,19 +39,11 @@ marked-some m (b ∷ s) h = refl
 run-some : (s : List ℕ) → eqb (run s) 0 ≡ false → 0 < length (take (run s) s)
 run-some s h =
     let k = eqb-false (run s) 0 h in
-    rw (length-take-le (run s) s (run-le s)) (omega arith)
+    rw (length-take-le (run s) s (run-le isDigit s)) (omega arith)
 
 exponent-some : (s : List ℕ) → isExponent s ≡ true → 0 < length s
 exponent-some [] h = not-both h refl
 exponent-some (b ∷ s) h = omega arith
-
-both-left : (a b : Bool) → both a b ≡ true → a ≡ true
-both-left true b h = refl
-both-left false b h = h
-
-pub both-right : (a b : Bool) → both a b ≡ true → b ≡ true
-both-right true b h = h
-both-right false b h = not-both h refl
 
 exponent-right : (negative : Bool) (whole fraction s : List ℕ) → AllDigits whole → 0 < length whole → AllDigits fraction
     → Right (signText negative ++ (whole ++ (marked 46 fraction ++ s))) (exponentAt negative whole fraction s)
@@ -70,10 +62,10 @@ exponent-right negative whole fraction (b ∷ s) dw lw df =
   where
     told : both (isMark b) (isExponent s) ≡ true → Spells (signText negative ++ (whole ++ (marked 46 fraction ++ (b ∷ s)))) (partsFrom negative whole fraction s)
     told h =
-        let x = both-right (isMark b) (isExponent s) h in
+        let x = both-true (isMark b) (isExponent s) h .1 in
         record {
           mark = b;
-          is-mark = both-left (isMark b) (isExponent s) h;
+          is-mark = both-true (isMark b) (isExponent s) h .0;
           text = rw (marked-some b s (exponent-some s x));
           whole-digits = dw;
           whole-written = lw;
@@ -89,7 +81,7 @@ fraction-right negative whole s dw lw =
     told : eqb (run s) 0 ≡ false
         → Right (signText negative ++ (whole ++ (46 ∷ s))) (exponentAt negative whole (take (run s) s) (drop (run s) s))
     told h =
-        let r = exponent-right negative whole (take (run s) s) (drop (run s) s) dw lw (digits-run s) in
+        let r = exponent-right negative whole (take (run s) s) (drop (run s) s) dw lw (of-run isDigit s) in
         let e : marked 46 (take (run s) s) ++ drop (run s) s ≡ 46 ∷ s =
         rw (marked-some 46 (take (run s) s) (run-some s h)) (ap (λ (l : List ℕ). 46 ∷ l) (take-append-drop (run s) s)) in
         rw e at r
@@ -104,7 +96,7 @@ point-right negative whole s dw lw =
 whole-right : (negative : Bool) (s : List ℕ) → Right (signText negative ++ s) (wholeAt negative s)
 whole-right negative s =
     choice (Right (signText negative ++ s)) (eqb (run s) 0) (λ _. tt)
-    (λ h. subst (λ (l : List ℕ). Right (signText negative ++ l) (pointAt negative (take (run s) s) (drop (run s) s))) (take-append-drop (run s) s) (point-right negative (take (run s) s) (drop (run s) s) (digits-run s) (run-some s h)))
+    (λ h. subst (λ (l : List ℕ). Right (signText negative ++ l) (pointAt negative (take (run s) s) (drop (run s) s))) (take-append-drop (run s) s) (point-right negative (take (run s) s) (drop (run s) s) (of-run isDigit s) (run-some s h)))
 
 right : (s : List ℕ) → Right s (partsOf s)
 right s =
@@ -140,7 +132,7 @@ begins-marked m (b ∷ s) h = rw (eqb·suc-zero (suc (length s)), h)
 
 -- digits, then a byte that is none or nothing
 run-before : (s t : List ℕ) → AllDigits s → run t ≡ 0 → run (s ++ t) ≡ length s
-run-before s t d h = run-append s t d ∙ rw h (add-zero (length s))
+run-before s t d h = run-append isDigit s t d ∙ rw h (add-zero (length s))
 
 some-run : (s : List ℕ) → 0 < length s → eqb (length s) 0 ≡ false
 some-run s h = ne-eqb (length s) 0 (λ e. no e)
@@ -188,7 +180,7 @@ whole-complete negative whole fraction exponent m k dw lw df x =
 digits-begin : (s t : List ℕ) → AllDigits s → 0 < length s → begins 45 (s ++ t) ≡ false
 digits-begin [] t d h = absurd (omega arith)
 digits-begin (b ∷ s) t d h =
-    let k = digit-bounds b (digits-head b s d .0) in
+    let k = digit-bounds b (of-head isDigit b s d .0) in
     rw (eqb·suc-zero (length (s ++ t)), ne-eqb b 45 (λ e. no e (k .0)))
   where
     no : b ≡ 45 → 48 ≤ b → ⊥

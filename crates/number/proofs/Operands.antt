@@ -13,8 +13,8 @@ use borrow.Author.Tests.{le-ltb, ltb-true, ltb-false, eqb-true, eqb-false, ne-eq
 use lib.ListN.{length, getD, take, drop, length-append}
 use Rattle.decimal.specs.Choice.{if_then_else_, both}
 use Rattle.decimal.specs.Digits.{isDigit, begins, run, valueFrom, value, first, lead, trim, figures, AllDigits}
-use Rattle.decimal.proofs.Choices.{choices, tested, not-both}
-use Rattle.decimal.proofs.Runs.{digits-head, digits-take}
+use Rattle.decimal.proofs.Choices.{choices, tested, not-both, both-true}
+use Rattle.decimal.proofs.Runs.{of-head, of-take}
 use Rattle.decimal.proofs.Values.{power-pos, value-lt}
 use Rattle.decimal.proofs.Zeros.{value-trim, trim-front, trim-le, trim-last}
 use Rattle.decimal.proofs.Figured.{length-figures, digits-figures, value-figures}
@@ -27,7 +27,6 @@ use Rattle.number.specs.Alike.{negative, negated}
 use Rattle.number.specs.declared.Number.{Number}
 use Rattle.number.specs.declared.Reading.{Reading}
 use Rattle.number.specs.declared.Reading.the-variants.{Is, Refused}
-use Rattle.number.proofs.Grammatical.{both-right}
 use Rattle.number.proofs.Admissible.{admitted, four-numbers}
 
 -- ---- w and t
@@ -37,7 +36,7 @@ pub trimmed : (v f : ℕ) → f < 10 ^ v → Trimmed v f (wOf v f) (tOf v f)
 trimmed v f h =
     record {
       places = omega (arith, trim-le s, length-figures v f);
-      room = value-lt (trim s) (rw (trim-front s) (digits-take (length (trim s)) s (digits-figures v f)));
+      room = value-lt (trim s) (rw (trim-front s) (of-take isDigit (length (trim s)) s (digits-figures v f)));
       scaled = scaled;
       last = λ n z. ⊎-elim (λ e. n (scaled ∙ rw e (omega arith))) (λ k. k z) (trim-last 0 s (digits-figures v f));
       none = λ z. ⊎-elim (λ e. (rw e, rw e)) (λ k. absurd (k (zero-value z))) (trim-last 0 s (digits-figures v f));
@@ -220,7 +219,7 @@ digit-canon b h = rw (ne-eqb b 101 (λ e. no e))
 canonical-digits : (s : List ℕ) → AllDigits s → canonical s ≡ s
 canonical-digits [] d = refl
 canonical-digits (b ∷ s) d =
-    let h = digits-head b s d in
+    let h = of-head isDigit b s d in
     rw (digit-canon b (h .0), canonical-digits s (h .1))
 
 canonical-take : (s : List ℕ) → take (run s) (canonical s) ≡ take (run s) s
@@ -246,7 +245,7 @@ exponent-canonical negative whole fraction s =
     rw (canonical-length s, canonical-head isMark refl s, canonical-drop 1 s, canonical-exponent (drop 1 s))
     (choices Same (eqb (length s) 0) (λ _. refl)
     (λ _. choices Same (both (isMark (getD s 0 0)) (isExponent (drop 1 s)))
-    (λ h. rw (canonical-digits (drop 1 s) (exponent-all (drop 1 s) (both-right (isMark (getD s 0 0)) (isExponent (drop 1 s)) h)))) (λ _. refl)))
+    (λ h. rw (canonical-digits (drop 1 s) (exponent-all (drop 1 s) (both-true (isMark (getD s 0 0)) (isExponent (drop 1 s)) h .1)))) (λ _. refl)))
 
 fraction-canonical : (negative : Bool) (whole s : List ℕ) → fractionAt negative whole (canonical s) ≡ fractionAt negative whole s
 fraction-canonical negative whole s =

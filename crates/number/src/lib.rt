@@ -17,11 +17,11 @@ use decimal::Places;
 
 const MAX_BYTES: usize = 64;
 
-const MAX_EXPONENT: u64 = 14;
+pub const MAX_EXPONENT: u64 = 14;
 
-const INTEGER_LIMIT: u64 = 1_000_000_000_000_000;
+pub const INTEGER_LIMIT: u64 = 1_000_000_000_000_000;
 
-const MAX_PLACES: usize = 9;
+pub const MAX_PLACES: usize = 9;
 
 // A number as read: its sign, and document 01's operands of the absolute value.
 pub struct Number {

@@ -5,7 +5,12 @@ ghost use lib.ListN.{length};
 use answer::Refusal;
 use libc::STDIN_FILENO;
 use libc::STDOUT_FILENO;
-use pack::Read;
+use pack_reader::Read;
+use pack_rules::ClauseEnds;
+use pack_rules::Columns;
+use pack_rules::Keywords;
+use pack_rules::RangeEnds;
+use pack_rules::RuleEnds;
 
 fn wide(x: usize) -> u64 {
     x as u64
@@ -33,13 +38,13 @@ fn print_count(n: usize) {
 }
 
 fn print_reading(pack: &[u8]) {
-    let mut low: [u32; 2048] = [0; 2048];
-    let mut high: [u32; 2048] = [0; 2048];
-    let mut columns: [u32; 1280] = [0; 1280];
-    let mut relations: [usize; 40] = [0; 40];
-    let mut keyword: [u8; 6] = [0; 6];
-    let mut clauses: [usize; 6] = [0; 6];
-    let read = pack::read_pack(
+    let mut low: RangeEnds = [0; 2048];
+    let mut high: RangeEnds = [0; 2048];
+    let mut columns: Columns = [0; 1280];
+    let mut relations: ClauseEnds = [0; 40];
+    let mut keyword: Keywords = [0; 6];
+    let mut clauses: RuleEnds = [0; 6];
+    let read = pack_reader::read_pack(
         pack,
         &mut low,
         &mut high,

@@ -10,17 +10,17 @@ use lib.ListN.{length, getD, take, drop, length-drop}
 use lib.Seq.{take-add}
 use Rattle.decimal.specs.Choice.{if_then_else_, both, either}
 use Rattle.decimal.specs.Digits.{isDigit, begins}
-use Rattle.decimal.proofs.Choices.{choice, tested, not-both}
+use Rattle.decimal.proofs.Choices.{choice, tested, not-both, both-true}
 use Rattle.decimal.proofs.Runs.{digit-bounds}
-use Rattle.utf8.proofs.Lower.{both-true}
-use Rattle.lexer.specs.declared.Mark.the-variants.{Permille}
-use Rattle.lexer.specs.declared.Item.{Item}
-use Rattle.lexer.specs.declared.Item.the-variants.{Text, Symbol, Reserved}
-use Rattle.lexer.specs.declared.Token.{Token}
-use Rattle.lexer.specs.declared.Affix.{Affix}
-use Rattle.lexer.specs.Items.{starts, apostrophe, permille, currency, isPlace, isReserved, bareOf, token, tokenAt, quotedAfter, isNumber}
-use Rattle.lexer.specs.Affixes.{endsAffix, longer, affixFrom, affix}
-use Rattle.lexer.proofs.ItemLaws.{token-fits, grown, affix-one, affix-none}
+use Rattle.pattern_token.specs.declared.Mark.the-variants.{Permille}
+use Rattle.pattern_token.specs.declared.Item.{Item}
+use Rattle.pattern_token.specs.declared.Item.the-variants.{Text, Symbol, Reserved}
+use Rattle.pattern_token.specs.declared.Token.{Token}
+use Rattle.pattern_affix.specs.declared.Affix.{Affix}
+use Rattle.pattern_token.specs.Items.{starts, apostrophe, permille, currency, isPlace, isReserved, bareOf, token, tokenAt, quotedAfter, isNumber}
+use Rattle.pattern_affix.specs.Affixes.{endsAffix, longer, affixFrom, affix}
+use Rattle.pattern_token.proofs.ItemLaws.{token-fits}
+use Rattle.pattern_affix.proofs.Scans.{grown, affix-one, affix-none}
 use Rattle.pattern_grammar.specs.Grammar.{isBare, IsAffix, done, apostrophe as pair, quote, literal, bare}
 
 -- ---- bare bytes

@@ -5,10 +5,10 @@ use Prim.Native.Nat.{ℕ, _+_}
 use lib.Dec.{eqb}
 use lib.ListN.{length, getD, drop}
 use Rattle.decimal.specs.Choice.{if_then_else_, both}
-use Rattle.pattern.specs.declared.Half.{Half}
-use Rattle.pattern.specs.declared.Negative.{Negative}
-use Rattle.pattern.specs.declared.Negative.the-variants.{MinusSymbol}
-use Rattle.pattern.specs.Reading.{halfOf, endOf, fits, ownAffixes}
+use Rattle.pattern_reader.specs.declared.Half.{Half}
+use Rattle.pattern_reader.specs.declared.Negative.{Negative}
+use Rattle.pattern_reader.specs.declared.Negative.the-variants.{MinusSymbol}
+use Rattle.pattern_reader.specs.Reading.{halfOf, endOf, fits, ownAffixes}
 
 -- the reader's test of the grammar
 abbrev pub wellFormed : List ℕ → Bool

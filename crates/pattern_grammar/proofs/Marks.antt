@@ -7,14 +7,13 @@ use native.Mathlib.Omega.{arith}
 use borrow.Author.Tests.{ne-eqb, eqb-true, ltb-true, ltb-false}
 use lib.Dec.{eqb, ltb}
 use Rattle.decimal.specs.Choice.{if_then_else_}
-use Rattle.decimal.proofs.Choices.{choice, tested, not-both}
-use Rattle.utf8.proofs.Lower.{both-true}
-use Rattle.lexer.specs.declared.Mark.{Mark}
-use Rattle.lexer.specs.declared.Mark.the-variants.{Percent, Permille}
-use Rattle.lexer.specs.declared.Item.{Item}
-use Rattle.lexer.specs.declared.Item.the-variants.{Symbol}
-use Rattle.lexer.specs.Items.{starts, permille, currency, isPlace, isReserved, bareOf, isNumber, itemsFrom, items}
-use Rattle.lexer.specs.Affixes.{weight, marks}
+use Rattle.decimal.proofs.Choices.{choice, tested, not-both, both-true}
+use Rattle.pattern_token.specs.declared.Mark.{Mark}
+use Rattle.pattern_token.specs.declared.Mark.the-variants.{Percent, Permille}
+use Rattle.pattern_token.specs.declared.Item.{Item}
+use Rattle.pattern_token.specs.declared.Item.the-variants.{Symbol}
+use Rattle.pattern_token.specs.Items.{starts, permille, currency, isPlace, isReserved, bareOf, isNumber, itemsFrom, items}
+use Rattle.pattern_affix.specs.Affixes.{weight, marks}
 use Rattle.pattern_grammar.specs.Grammar.{isBare, IsAffix, done, apostrophe, quote, literal, bare}
 use Rattle.pattern_grammar.specs.Meaning.{percentMark, bareCount}
 use Rattle.pattern_grammar.proofs.Affixes.{bare-kept, bare-parts, single, isInner, highs, permille-highs, currency-highs}

@@ -9,18 +9,17 @@ use borrow.Author.Tests.{eqb-true, eqb-false, lt-ltb, ltb-true, ltb-false}
 use lib.Dec.{eqb, ltb}
 use lib.ListN.{length}
 use Rattle.decimal.specs.Choice.{both, either}
-use Rattle.decimal.proofs.Choices.{tested, not-both}
-use Rattle.utf8.proofs.Lower.{both-true}
-use Rattle.lexer.specs.declared.Affix.{Affix}
-use Rattle.lexer.specs.declared.Mark.{Mark}
-use Rattle.lexer.specs.declared.Mark.the-variants.{Percent, Permille}
-use Rattle.lexer.specs.Items.{permille as permilleMark, items}
-use Rattle.lexer.specs.Affixes.{marks}
-use Rattle.numberpart.specs.Shape.{wholeOf, fractionOf, count, digits, primaryOf, secondaryOf, stepOf}
-use Rattle.pattern.specs.Limits.{maxWhole, maxFraction, maxStep}
-use Rattle.pattern.specs.declared.Half.{Half}
-use Rattle.pattern.specs.declared.Negative.{Negative}
-use Rattle.pattern.specs.Reading.{numberOf, suffixOf, marksOf, halfOf, manyPlaces, stepOver, manyMarks, sameMarks, factorOf, patternOf, ownAffixes}
+use Rattle.decimal.proofs.Choices.{tested, not-both, both-true}
+use Rattle.pattern_affix.specs.declared.Affix.{Affix}
+use Rattle.pattern_token.specs.declared.Mark.{Mark}
+use Rattle.pattern_token.specs.declared.Mark.the-variants.{Percent, Permille}
+use Rattle.pattern_token.specs.Items.{permille as permilleMark, items}
+use Rattle.pattern_affix.specs.Affixes.{marks}
+use Rattle.pattern_number.specs.Shape.{wholeOf, fractionOf, count, digits, primaryOf, secondaryOf, stepOf}
+use Rattle.pattern_reader.specs.Limits.{maxWhole, maxFraction, maxStep}
+use Rattle.pattern_reader.specs.declared.Half.{Half}
+use Rattle.pattern_reader.specs.declared.Negative.{Negative}
+use Rattle.pattern_reader.specs.Reading.{numberOf, suffixOf, marksOf, halfOf, manyPlaces, stepOver, manyMarks, sameMarks, factorOf, patternOf, ownAffixes}
 use Rattle.pattern_grammar.specs.NumberPart.{dropCommas}
 use Rattle.pattern_grammar.specs.Grammar.{IsSub}
 use Rattle.pattern_grammar.specs.Meaning.{stepIn, percentMark, marksIn, factorIn, ManyPlaces, StepOver, ManyMarks, SameMarks, asked, ownIn}

@@ -10,12 +10,12 @@ use lib.ListN.{length}
 use Rattle.decimal.specs.Choice.{if_then_else_, either}
 use Rattle.decimal.specs.Digits.{isDigit, AllDigits, valueFrom, value}
 use Rattle.decimal.proofs.Choices.{tested, not-both}
-use Rattle.decimal.proofs.Runs.{digits-head}
+use Rattle.decimal.proofs.Runs.{of-head}
 use Rattle.decimal.proofs.Values.{value-append}
-use Rattle.numberpart.specs.Shape.{between, count, misplaced, seenAfter, ordered, unit, unitsFrom, stepOf}
+use Rattle.pattern_number.specs.Shape.{between, count, misplaced, seenAfter, ordered, unit, unitsFrom, stepOf, isHash}
 use Rattle.pattern_grammar.specs.NumberPart.{dropCommas, AllHashes, IsFraction, Sides, unpointed, pointed, IsPart}
 use Rattle.pattern_grammar.specs.Meaning.{asZero, stepIn}
-use Rattle.pattern_grammar.proofs.Parts.{hashes-head, whole-ordered}
+use Rattle.pattern_grammar.proofs.Parts.{whole-ordered}
 
 -- ---- integer places
 
@@ -81,12 +81,12 @@ units-fraction n f p =
   where
     digit : (b : ℕ) (s : List ℕ) → AllDigits (b ∷ s) → (isFigure b ≡ true) × AllDigits s
     digit b s e =
-        let d = digits-head b s e in
+        let d = of-head isDigit b s e in
         (tested (eqb b 35) (λ k. rw k) (λ k. rw (k, d .0)), d .1)
 
     hash : (b : ℕ) (s : List ℕ) → AllHashes (b ∷ s) → (isFigure b ≡ true) × AllHashes s
     hash b s e =
-        let d = hashes-head b s e in
+        let d = of-head isHash b s e in
         (rw (d .0), d .1)
 
 units-sides : {n w f : List ℕ} → Sides n w f → ordered false w ≡ true → IsFraction f → unitsFrom 0 n ≡ value (map asZero (dropCommas w ++ f))

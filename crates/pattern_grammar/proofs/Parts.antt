@@ -12,30 +12,11 @@ use lib.Seq.{take-at, drop-at, take-length, drop-cons}
 use Rattle.decimal.specs.Choice.{if_then_else_}
 use Rattle.decimal.specs.Digits.{isDigit, begins, run, AllDigits}
 use Rattle.decimal.proofs.Choices.{tested, not-both}
-use Rattle.decimal.proofs.Runs.{digits-head, digits-cons, digits-run, run-append, run-le}
-use Rattle.numberpart.specs.Shape.{find, wholeOf, fractionOf, digits, misplaced, seenAfter, ordered, badComma, apart, wholeFits, hashes, fractionFits, numberFits}
+use Rattle.decimal.proofs.Runs.{of-head, of-cons, of-run, run-append, run-le}
+use Rattle.decimal.specs.Split.{until}
+use Rattle.decimal.proofs.Splits.{until-le}
+use Rattle.pattern_number.specs.Shape.{wholeOf, fractionOf, digits, misplaced, seenAfter, ordered, badComma, apart, wholeFits, isHash, hashes, fractionFits, numberFits}
 use Rattle.pattern_grammar.specs.NumberPart.{dropCommas, AllHashes, IsWhole, IsFraction, Sides, unpointed, pointed, IsPart}
-
--- ---- `#` alone
-
-pub hashes-head : (b : ℕ) (s : List ℕ) → AllHashes (b ∷ s) → (eqb b 35 ≡ true) × AllHashes s
-hashes-head b s e = tested (eqb b 35) yes no
-  where
-    yes : eqb b 35 ≡ true → (eqb b 35 ≡ true) × AllHashes s
-    yes k =
-        let f : suc (hashes s) ≡ suc (length s) = rw k at e in
-        (k, omega arith)
-
-    no : eqb b 35 ≡ false → (eqb b 35 ≡ true) × AllHashes s
-    no k =
-        let f : 0 ≡ suc (length s) = rw k at e in
-        absurd (never f)
-      where
-        never : 0 ≡ suc (length s) → ⊥
-        never g = omega arith
-
-pub hashes-cons : (b : ℕ) (s : List ℕ) → eqb b 35 ≡ true → AllHashes s → AllHashes (b ∷ s)
-hashes-cons b s h e = rw h (ap suc e)
 
 -- `#` is no digit
 pub hash-no-digit : (b : ℕ) → eqb b 35 ≡ true → isDigit b ≡ false
@@ -70,7 +51,7 @@ ordered-more q b w ih e = tested (eqb b 44) comma other
           marks = b ∷ o .marks;
           figures = o .figures;
           text = ap (λ (l : List ℕ). b ∷ l) (o .text);
-          marks-are = hashes-cons b (o .marks) h (o .marks-are);
+          marks-are = of-cons isHash b (o .marks) h (o .marks-are);
           figures-are = o .figures-are;
           none = λ t. not-both t f;
         }
@@ -84,7 +65,7 @@ ordered-more q b w ih e = tested (eqb b 44) comma other
           figures = b ∷ o .figures;
           text = ap (λ (l : List ℕ). b ∷ l) t;
           marks-are = refl;
-          figures-are = digits-cons b (o .figures) d (o .figures-are);
+          figures-are = of-cons isDigit b (o .figures) d (o .figures-are);
           none = λ _. refl;
         }
 
@@ -116,19 +97,19 @@ ordered-back q b w ih o = tested (eqb b 44) comma other
     split k [] (c ∷ f) t ma fa n =
         let same : b ≡ c = cc in
         let rest : dropCommas w ≡ f = cc in
-        let d : isDigit b ≡ true = rw same (digits-head c f fa .0) in
+        let d : isDigit b ≡ true = rw same (of-head isDigit c f fa .0) in
         rw (k, digit-no-hash b d, d)
         (ih true
-        (record { marks = []; figures = f; text = rest; marks-are = refl; figures-are = digits-head c f fa .1; none = λ _. refl }))
+        (record { marks = []; figures = f; text = rest; marks-are = refl; figures-are = of-head isDigit c f fa .1; none = λ _. refl }))
     split k (c ∷ m) f t ma fa n =
         let same : b ≡ c = cc in
         let rest : dropCommas w ≡ m ++ f = cc in
-        let h : eqb b 35 ≡ true = rw same (hashes-head c m ma .0) in
+        let h : eqb b 35 ≡ true = rw same (of-head isHash c m ma .0) in
         tested q (λ g. absurd (no (n g)))
         (λ g.
         rw (k, h, g, hash-no-digit b h)
         (ih false
-        (record { marks = m; figures = f; text = rest; marks-are = hashes-head c m ma .1; figures-are = fa; none = λ y. not-both y refl })))
+        (record { marks = m; figures = f; text = rest; marks-are = of-head isHash c m ma .1; figures-are = fa; none = λ y. not-both y refl })))
       where
         no : c ∷ m ≡ [] → ⊥
         no g =
@@ -212,31 +193,31 @@ fraction-sound f e =
       figures = take (run f) f;
       marks = drop (run f) f;
       text = sym (take-append-drop (run f) f);
-      figures-are = digits-run f;
-      marks-are = omega (arith, eqb-true (run f + hashes (drop (run f) f)) (length f) e, length-drop (run f) f, run-le f);
+      figures-are = of-run isDigit f;
+      marks-are = omega (arith, eqb-true (run f + hashes (drop (run f) f)) (length f) e, length-drop (run f) f, run-le isDigit f);
     }
 
 hashes-run : (m : List ℕ) → AllHashes m → run m ≡ 0
 hashes-run [] e = refl
-hashes-run (b ∷ m) e = rw (hash-no-digit b (hashes-head b m e .0))
+hashes-run (b ∷ m) e = rw (hash-no-digit b (of-head isHash b m e .0))
 
 pub fraction-complete : (f : List ℕ) → IsFraction f → fractionFits f ≡ true
 fraction-complete f p =
     let r : run f ≡ length (p .figures) =
-    rw (p .text) (run-append (p .figures) (p .marks) (p .figures-are) ∙ omega (arith, hashes-run (p .marks) (p .marks-are))) in
+    rw (p .text) (run-append isDigit (p .figures) (p .marks) (p .figures-are) ∙ omega (arith, hashes-run (p .marks) (p .marks-are))) in
     let d : drop (run f) f ≡ p .marks = rw (r, p .text) (drop-at (p .figures) (p .marks) (length (p .figures)) refl) in
     let n : length f ≡ length (p .figures) + length (p .marks) = rw (p .text) (length-append (p .figures) (p .marks)) in
     eq-eqb (run f + hashes (drop (run f) f)) (length f) (rw d (omega (arith, r, n, p .marks-are)))
 
 -- ---- the whole part
 
-pub find-whole : (q : Bool) (w r : List ℕ) → ordered q w ≡ true → find 46 (w ++ r) ≡ length w + find 46 r
-find-whole q [] r e = omega arith
-find-whole q (b ∷ w) r e =
+pub until-whole : (q : Bool) (w r : List ℕ) → ordered q w ≡ true → until 46 (w ++ r) ≡ length w + until 46 r
+until-whole q [] r e = omega arith
+until-whole q (b ∷ w) r e =
     tested (misplaced q b) (λ k. not-both e (rw k))
     (λ k.
     let p : b ≡ 46 → ⊥ = λ y. not-point q b y k in
-    let ih = find-whole (seenAfter q b) w r (rw k at e) in
+    let ih = until-whole (seenAfter q b) w r (rw k at e) in
     rw (ne-eqb b 46 p) (omega (arith, ih)))
   where
     not-point : (q : Bool) (b : ℕ) → b ≡ 46 → misplaced q b ≡ false → ⊥
@@ -252,10 +233,10 @@ past n =
 -- the sides of the point are where the reader looks for them
 sides-read : {n w f : List ℕ} → Sides n w f → ordered false w ≡ true → (wholeOf n ≡ w) × (fractionOf n ≡ f)
 sides-read (unpointed {w}) o =
-    let k : find 46 w ≡ length w = sym (ap (find 46) (append-nil w)) ∙ (find-whole false w [] o ∙ omega arith) in
+    let k : until 46 w ≡ length w = sym (ap (until 46) (append-nil w)) ∙ (until-whole false w [] o ∙ omega arith) in
     (rw k (take-length w), rw k (past w))
 sides-read (pointed {w} {f}) o =
-    let k : find 46 (w ++ (46 ∷ f)) ≡ length w = find-whole false w (46 ∷ f) o ∙ omega arith in
+    let k : until 46 (w ++ (46 ∷ f)) ≡ length w = until-whole false w (46 ∷ f) o ∙ omega arith in
     (rw k (take-at w (46 ∷ f) (length w) refl), rw k (behind w f))
   where
     behind : (w f : List ℕ) → drop (length w + 1) (w ++ (46 ∷ f)) ≡ f
@@ -274,30 +255,26 @@ number-complete n p =
     (fraction-complete (p .fraction) (p .fraction-is))
 
 -- a point is found where the first one stands
-find-point : (n : List ℕ) → find 46 n < length n → getD n (find 46 n) 0 ≡ 46
-find-point [] h = omega arith
-find-point (b ∷ n) h =
+until-point : (n : List ℕ) → until 46 n < length n → getD n (until 46 n) 0 ≡ 46
+until-point [] h = omega arith
+until-point (b ∷ n) h =
     tested (eqb b 46) (λ k. rw k (eqb-true b 46 k))
-    (λ k. let g : suc (find 46 n) < suc (length n) = rw k at h in rw k (find-point n (omega arith)))
-
-find-le : (n : List ℕ) → find 46 n ≤ length n
-find-le [] = omega arith
-find-le (b ∷ n) = tested (eqb b 46) (λ k. rw k (omega arith)) (λ k. rw k (omega (arith, find-le n)))
+    (λ k. let g : suc (until 46 n) < suc (length n) = rw k at h in rw k (until-point n (omega arith)))
 
 sides-of : (n : List ℕ) → Sides n (wholeOf n) (fractionOf n)
-sides-of n = tested (ltb (find 46 n) (length n)) some none
+sides-of n = tested (ltb (until 46 n) (length n)) some none
   where
-    some : ltb (find 46 n) (length n) ≡ true → Sides n (wholeOf n) (fractionOf n)
+    some : ltb (until 46 n) (length n) ≡ true → Sides n (wholeOf n) (fractionOf n)
     some k =
-        let h = ltb-true (find 46 n) (length n) k in
+        let h = ltb-true (until 46 n) (length n) k in
         let e : n ≡ wholeOf n ++ (46 ∷ fractionOf n) =
-        sym (take-append-drop (find 46 n) n)
-        ∙ ap (λ (l : List ℕ). wholeOf n ++ l) (drop-cons n (find 46 n) 0 h ∙ rw (find-point n h, add-one (find 46 n))) in
+        sym (take-append-drop (until 46 n) n)
+        ∙ ap (λ (l : List ℕ). wholeOf n ++ l) (drop-cons n (until 46 n) 0 h ∙ rw (until-point n h, add-one (until 46 n))) in
         subst (λ (l : List ℕ). Sides l (wholeOf n) (fractionOf n)) (sym e) pointed
 
-    none : ltb (find 46 n) (length n) ≡ false → Sides n (wholeOf n) (fractionOf n)
+    none : ltb (until 46 n) (length n) ≡ false → Sides n (wholeOf n) (fractionOf n)
     none k =
-        let e : find 46 n ≡ length n = omega (arith, ltb-false (find 46 n) (length n) k, find-le n) in
+        let e : until 46 n ≡ length n = omega (arith, ltb-false (until 46 n) (length n) k, until-le 46 n) in
         let w : wholeOf n ≡ n = rw e (take-length n) in
         let f : fractionOf n ≡ [] = rw e (past n) in
         rw (w, f) unpointed

@@ -11,17 +11,16 @@ use lib.ListN.{length, getD, take, drop, take-append-drop, length-append, length
 use lib.Seq.{take-add, take-at, drop-at, drop-drop, take-length, drop-length, drop-cons, getD-append-seam}
 use Rattle.decimal.specs.Choice.{if_then_else_, both}
 use Rattle.decimal.specs.Digits.{isDigit, AllDigits}
-use Rattle.decimal.proofs.Choices.{tested, not-both}
-use Rattle.decimal.proofs.Runs.{digits-head}
-use Rattle.utf8.proofs.Lower.{both-true}
-use Rattle.lexer.specs.declared.Affix.{Affix}
-use Rattle.lexer.specs.Items.{isPlace, tokenAt, quotedAfter, isNumber}
-use Rattle.lexer.specs.Affixes.{endsAffix, affixFrom, affix}
-use Rattle.numberpart.specs.Shape.{digits, misplaced, seenAfter, ordered, numberFits}
-use Rattle.pattern.specs.Reading.{places, prefixLen, numberLen, behind, suffixAffix, prefixOf, numberOf, suffixOf, halfOf, endOf, fits}
+use Rattle.decimal.proofs.Choices.{tested, not-both, both-true}
+use Rattle.decimal.proofs.Runs.{of-head}
+use Rattle.pattern_affix.specs.declared.Affix.{Affix}
+use Rattle.pattern_token.specs.Items.{isPlace, tokenAt, quotedAfter, isNumber}
+use Rattle.pattern_affix.specs.Affixes.{endsAffix, affixFrom, affix}
+use Rattle.pattern_number.specs.Shape.{digits, misplaced, seenAfter, ordered, numberFits, isHash}
+use Rattle.pattern_reader.specs.Reading.{places, prefixLen, numberLen, behind, suffixAffix, prefixOf, numberOf, suffixOf, halfOf, endOf, fits}
 use Rattle.pattern_grammar.specs.NumberPart.{AllHashes, IsFraction, Sides, unpointed, pointed, IsPart}
 use Rattle.pattern_grammar.specs.Grammar.{IsAffix, done, apostrophe, quote, bare, IsSub, IsPattern, one, two}
-use Rattle.pattern_grammar.proofs.Parts.{hashes-head, whole-ordered, number-sound, number-complete}
+use Rattle.pattern_grammar.proofs.Parts.{whole-ordered, number-sound, number-complete}
 use Rattle.pattern_grammar.proofs.Halves.{wellFormed}
 use Rattle.pattern_grammar.proofs.Affixes.{stops, affix-sound, affix-found, bare-parts}
 
@@ -53,13 +52,13 @@ ordered-places q (b ∷ w) r e =
 digits-places : (s r : List ℕ) → AllDigits s → places (s ++ r) ≡ length s + places r
 digits-places [] r e = omega arith
 digits-places (b ∷ s) r e =
-    let d = digits-head b s e in
+    let d = of-head isDigit b s e in
     places-cons b s r (digit-place b (d .0)) (digits-places s r (d .1))
 
 hashes-places : (s r : List ℕ) → AllHashes s → places (s ++ r) ≡ length s + places r
 hashes-places [] r e = omega arith
 hashes-places (b ∷ s) r e =
-    let d = hashes-head b s e in
+    let d = of-head isHash b s e in
     places-cons b s r (rw (d .0)) (hashes-places s r (d .1))
 
 fraction-places : (f r : List ℕ) → IsFraction f → places (f ++ r) ≡ length f + places r

@@ -7,8 +7,9 @@ use Prim.Native.Nat.{ℕ, suc, _<_}
 use lib.Dec.{eqb}
 use lib.ListN.{length, getD}
 use Rattle.decimal.specs.Choice.{if_then_else_}
+use Rattle.decimal.specs.Lists.{AllOf}
 use Rattle.decimal.specs.Digits.{begins, AllDigits}
-use Rattle.numberpart.specs.Shape.{hashes, digits}
+use Rattle.pattern_number.specs.Shape.{isHash, digits}
 
 abbrev pub dropCommas : List ℕ → List ℕ
 dropCommas [] = []
@@ -16,7 +17,7 @@ dropCommas (b ∷ s) = if eqb b 44 then dropCommas s else b ∷ dropCommas s
 
 -- `#` alone
 abbrev pub AllHashes : List ℕ → Type 0
-AllHashes s = hashes s ≡ length s
+AllHashes s = AllOf isHash s
 
 -- "integer places `#` first, then digits"
 pub record IsPlaces (t : List ℕ) : Type 0 where

@@ -10,10 +10,10 @@ ghost use lib.ListN.{length};
 use decimal::cut;
 use libc::STDIN_FILENO;
 use libc::STDOUT_FILENO;
-use pattern::Negative;
-use pattern::Pattern;
-use pattern::PatternReading;
-use pattern::Span;
+use pattern_reader::Negative;
+use pattern_reader::Pattern;
+use pattern_reader::PatternReading;
+use pattern_reader::Span;
 
 // How many bytes stand before the end of the line.
 fn line_len(s: &[u8]) -> usize
@@ -87,7 +87,7 @@ fn print_all(input: &[u8]) {
     while from < input.len() {
         let rest = cut::after(input, from);
         let n = line_len(rest);
-        print_reading(pattern::read_pattern(cut::upto(rest, n)));
+        print_reading(pattern_reader::read_pattern(cut::upto(rest, n)));
         if input.len() - from <= n {
             return;
         }

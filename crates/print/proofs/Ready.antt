@@ -12,7 +12,8 @@ use Rattle.decimal.specs.Digits.{figures}
 use Rattle.decimal.proofs.Choices.{tested}
 use Rattle.decimal.proofs.Values.{power-mono}
 use Rattle.decimal.proofs.Figured.{length-figures}
-use Rattle.answer.specs.declared.Refusal.the-variants.{AreaTooShort}
+use Rattle.answer.specs.declared.Refusal.the-variants.{Print as OfPrint}
+use Rattle.answer.specs.declared.PrintRow.the-variants.{AreaTooShort}
 use Rattle.area.specs.Area.{Wrote, most}
 use Rattle.area.proofs.Pieces.{front}
 use Rattle.symbols.specs.declared.Judged.the-variants.{Good}
@@ -22,13 +23,13 @@ use Rattle.number.specs.declared.Number.{Number}
 use Rattle.number.specs.declared.Reading.the-variants.{Is as NumberIs}
 use Rattle.number.specs.Reading.{readNumber}
 use Rattle.number.proofs.Admissible.{admitted}
-use Rattle.pattern.specs.declared.Pattern.{Pattern}
-use Rattle.pattern.specs.declared.PatternReading.the-variants.{Is as PatternIs}
-use Rattle.pattern.specs.Limits.{maxBytes}
-use Rattle.pattern.specs.Reading.{readPattern}
+use Rattle.pattern_reader.specs.declared.Pattern.{Pattern}
+use Rattle.pattern_reader.specs.declared.PatternReading.the-variants.{Is as PatternIs}
+use Rattle.pattern_reader.specs.Limits.{maxBytes}
+use Rattle.pattern_reader.specs.Reading.{readPattern}
 use Rattle.pattern_grammar.proofs.Verdicts.{not-read}
 use Rattle.pattern_grammar.proofs.Bounds.{read-bounds, read-factor}
-use Rattle.rounding.specs.Nearest.{unitsOf}
+use Rattle.nearest.specs.Nearest.{unitsOf}
 use Rattle.rounding.specs.Limits.{within, width, rounded}
 use Rattle.rounding.proofs.Arithmetic.{fits-within}
 use Rattle.layout.specs.Text.{affixesOf, digitsOf, textOf}
@@ -78,7 +79,7 @@ pub laid-aside : (t o o′ : List ℕ) (need : ℕ) → need ≡ length t → Wr
 laid-aside t o o′ need e w h = rw (front t w (omega arith), e) (take-append-seam t (drop (length t) o))
 
 pub short-answer : (t area : List ℕ) (need : ℕ) → need ≡ length t → length area < need
-    → (Refused (AreaTooShort need) ≡ answerOf (text t) area) × (area ≡ areaOf (text t) area)
+    → (Refused (OfPrint (AreaTooShort need)) ≡ answerOf (text t) area) × (area ≡ areaOf (text t) area)
 short-answer t area need e h =
     let k : ltb (length area) (length t) ≡ true = lt-ltb (length area) (length t) (omega arith) in
     (rw (k, e), rw k)

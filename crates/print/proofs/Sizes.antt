@@ -11,14 +11,14 @@ use Rattle.decimal.specs.Choice.{if_then_else_}
 use Rattle.decimal.specs.Digits.{lead, trim}
 use Rattle.decimal.proofs.Choices.{tested, choice, not-both}
 use Rattle.utf8.specs.Utf8.{charBytes, restFits, charLen, isChar}
-use Rattle.lexer.specs.declared.Item.{Item}
-use Rattle.lexer.specs.declared.Item.the-variants.{Text, Symbol as SymbolItem, Place, Quote, Semicolon, Reserved}
-use Rattle.lexer.specs.Items.{tokenAt, quotedAfter, isNumber, itemsFrom, items}
+use Rattle.pattern_token.specs.declared.Item.{Item}
+use Rattle.pattern_token.specs.declared.Item.the-variants.{Text, Symbol as SymbolItem, Place, Quote, Semicolon, Reserved}
+use Rattle.pattern_token.specs.Items.{tokenAt, quotedAfter, isNumber, itemsFrom, items}
 use Rattle.symbols.specs.declared.Symbol.{Symbol}
 use Rattle.symbols.specs.declared.Symbol.the-variants.{Decimal, Group, Minus}
 use Rattle.symbols.specs.Entries.{bodyFits}
-use Rattle.pattern.specs.declared.Span.{Span}
-use Rattle.pattern.specs.declared.Pattern.{Pattern}
+use Rattle.pattern_reader.specs.declared.Span.{Span}
+use Rattle.pattern_reader.specs.declared.Pattern.{Pattern}
 use Rattle.layout.specs.declared.Affixes.{Affixes}
 use Rattle.layout.specs.Layout.{wholeDigits, fractionDigits, zeroDigit, spell, mark, grouped}
 use Rattle.layout.proofs.Spelling.{spell-four}

@@ -1,4 +1,1 @@
 pub mod Outcome
-pub mod Claims
-pub mod Text
-pub mod Clean

@@ -6,14 +6,15 @@ use lib.Dec.{ltb}
 use lib.ListN.{length, drop}
 use Rattle.decimal.specs.Choice.{if_then_else_}
 use Rattle.answer.specs.declared.Refusal.{Refusal}
-use Rattle.answer.specs.declared.Refusal.the-variants.{PrintedExponent, AreaTooShort}
+use Rattle.answer.specs.declared.Refusal.the-variants.{Print as OfPrint}
+use Rattle.answer.specs.declared.PrintRow.the-variants.{PrintedExponent, AreaTooShort}
 use Rattle.symbols.specs.declared.Judged.{Judged}
 use Rattle.symbols.specs.declared.Judged.the-variants.{Good, Refused as SymbolsRefused}
 use Rattle.symbols.specs.Entries.{readSymbols, symbolIn, standardRecord}
-use Rattle.pattern.specs.declared.Pattern.{Pattern}
-use Rattle.pattern.specs.declared.PatternReading.{PatternReading}
-use Rattle.pattern.specs.declared.PatternReading.the-variants.{Is as PatternIs, Refused as PatternRefused}
-use Rattle.pattern.specs.Reading.{readPattern}
+use Rattle.pattern_reader.specs.declared.Pattern.{Pattern}
+use Rattle.pattern_reader.specs.declared.PatternReading.{PatternReading}
+use Rattle.pattern_reader.specs.declared.PatternReading.the-variants.{Is as PatternIs, Refused as PatternRefused}
+use Rattle.pattern_reader.specs.Reading.{readPattern}
 use Rattle.number.specs.declared.Number.{Number}
 use Rattle.number.specs.declared.Reading.{Reading}
 use Rattle.number.specs.declared.Reading.the-variants.{Is as NumberIs, Refused as NumberRefused}
@@ -29,7 +30,7 @@ pub data Outcome : Type 0 where
 
 -- 50: "printing a number with an exponent"
 abbrev pub ofNumber : List ℕ → List ℕ → Pattern → Number → Outcome
-ofNumber house s p n = if ltb 0 (n .e) then refused PrintedExponent else text (textOf (symbolIn house standardRecord) s p n)
+ofNumber house s p n = if ltb 0 (n .e) then refused (OfPrint PrintedExponent) else text (textOf (symbolIn house standardRecord) s p n)
 
 abbrev pub afterNumber : List ℕ → List ℕ → Pattern → Reading → Outcome
 afterNumber house s p (NumberIs n) = ofNumber house s p n
@@ -52,7 +53,7 @@ tooLong t area = ltb (length area) (length t)
 
 -- the answer: 51 with the bytes needed, or the text's length
 abbrev pub answerOf : Outcome → List ℕ → Printed
-answerOf (text t) area = if tooLong t area then Refused (AreaTooShort (length t)) else Text (length t)
+answerOf (text t) area = if tooLong t area then Refused (OfPrint (AreaTooShort (length t))) else Text (length t)
 answerOf (refused r) area = Refused r
 
 -- "A refusal writes nothing; a success writes its text at the front and no byte beyond": the whole area behind

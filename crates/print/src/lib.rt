@@ -10,15 +10,16 @@ ghost use lib.ListN.{length};
 ghost use Rattle.area.specs.Area.{most};
 ghost use Rattle.rounding.specs.Limits.{within};
 ghost use Rattle.symbols.specs.Entries.{readSymbols, symbolIn, standardRecord};
-ghost use Rattle.pattern.specs.Reading.{readPattern};
+ghost use Rattle.pattern_reader.specs.Reading.{readPattern};
 ghost use Rattle.number.specs.Reading.{readNumber};
 ghost use Rattle.layout.specs.Text.{affixesOf, laidOut, textOf};
 ghost use Rattle.print.specs.Outcome.{text, ofNumber, afterNumber, afterPattern, outcome, answerOf, areaOf};
+use answer::PrintRow;
 use answer::Refusal;
 use number::Number;
 use number::Reading;
-use pattern::Pattern;
-use pattern::PatternReading;
+use pattern_reader::Pattern;
+use pattern_reader::PatternReading;
 use symbols::Judged;
 
 // A text of so many bytes at the area's front, or why there is none.
@@ -48,7 +49,7 @@ fn print_digits(
     let mut aside = [0u8; ROOM];
     let need = layout::write_text(&mut aside, house, pattern, p, a, digits);
     if out.len() < need {
-        return Printed::Refused(Refusal::AreaTooShort(need));
+        return Printed::Refused(Refusal::Print(PrintRow::AreaTooShort(need)));
     }
     if need <= ROOM {
         area::append(out, 0, decimal::cut::upto(&aside, need));
@@ -66,7 +67,7 @@ fn print_number(house: &[u8], pattern: &[u8], p: Pattern, n: Number, out: &mut [
     ensures { λ _. ⌜ now (out .exit) ≡ areaOf (ofNumber (now (house .entry)) (now (pattern .entry)) p n) (now (out .entry)) ⌝ }
 {
     if 0 < n.e {
-        return Printed::Refused(Refusal::PrintedExponent);
+        return Printed::Refused(Refusal::Print(PrintRow::PrintedExponent));
     }
     let v = n.v;
     let f = n.f;
@@ -92,7 +93,7 @@ fn print_pattern(house: &[u8], pattern: &[u8], number: &[u8], out: &mut [u8]) ->
     ensures { λ r. ⌜ r ≡ answerOf (afterPattern (now (house .entry)) (now (pattern .entry)) (readPattern (now (pattern .entry))) (now (number .entry))) (now (out .entry)) ⌝ }
     ensures { λ _. ⌜ now (out .exit) ≡ areaOf (afterPattern (now (house .entry)) (now (pattern .entry)) (readPattern (now (pattern .entry))) (now (number .entry))) (now (out .entry)) ⌝ }
 {
-    let reading = pattern::read_pattern(pattern);
+    let reading = pattern_reader::read_pattern(pattern);
     match reading {
         PatternReading::Is(p) => print_text(house, pattern, p, number, out),
         PatternReading::Refused(r) => Printed::Refused(r),

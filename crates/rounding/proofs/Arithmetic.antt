@@ -13,12 +13,11 @@ use borrow.Author.Tests.{eqb-true, le-ltb, ltb-false, leb-true, le-leb}
 use Rattle.decimal.proofs.Choices.{tested, choice, not-both}
 use lib.ListN.{length, getD, take, drop, set, length-set}
 use lib.Seq.{drop-cons, take-suc, take-suc-set, take-length, take-set-le, take-all, drop-set-lt}
-use Rattle.decimal.specs.Digits.{isDigit, AllDigits, value, figures, lead}
-use Rattle.decimal.proofs.Runs.{digit-bounds, digits-head}
+use Rattle.decimal.specs.Digits.{isDigit, AllDigits, value, figures, lead, isZero}
+use Rattle.decimal.proofs.Runs.{digit-bounds, of-head, run-le}
 use Rattle.decimal.proofs.Values.{value-snoc, value-more, value-lt, power-mono, power-pos}
 use Rattle.decimal.proofs.Figured.{length-figures, digits-figures, value-figures, figures-of, figures-start, figures-again}
-use Rattle.decimal.proofs.Zeros.{lead-le}
-use Rattle.rounding.specs.Nearest.{up, stepsOf, exact, unitsOf}
+use Rattle.nearest.specs.Nearest.{up, stepsOf, exact, unitsOf}
 use Rattle.rounding.specs.Limits.{width, maxInteger, maxPlaces, maxFraction, maxFactor, maxStep, within}
 
 -- ---- a multiplication, from the last digit on
@@ -64,8 +63,8 @@ scale-done m c d₀ d over i s e = rw e at (s .digits)
 
 digit-at : (s : List ℕ) (i : ℕ) → AllDigits s → i < length s → isDigit (getD s i 0) ≡ true
 digit-at [] i a h = absurd (omega arith)
-digit-at (b ∷ s) zero a h = digits-head b s a .0
-digit-at (b ∷ s) (suc i) a h = digit-at s i (digits-head b s a .1) (omega arith)
+digit-at (b ∷ s) zero a h = of-head isDigit b s a .0
+digit-at (b ∷ s) (suc i) a h = digit-at s i (of-head isDigit b s a .1) (omega arith)
 
 pub record Dividing (step : ℕ) (d₀ d : List ℕ) (r i : ℕ) : Type 0 where
   pub size : length d ≡ length d₀
@@ -91,7 +90,7 @@ divide-start step z d h e =
     let v : value (take z d) ≡ 0 = ap value f ∙ value-figures z 0 ∙ zero-mod (10 ^ z) in
     record {
       size = refl;
-      at = omega (arith, lead-le d);
+      at = omega (arith, run-le isZero d);
       low = h;
       front = rw (v, zero-div step) f;
       left = refl;

@@ -10,9 +10,9 @@ use lib.Dec.{ltb, leb}
 use borrow.Author.Tests.{ltb-true, leb-true}
 use Rattle.decimal.proofs.Choices.{tested, not-both, ltb-same}
 use Rattle.decimal.proofs.Values.{power-mono, power-pos}
-use Rattle.rounding.specs.Nearest.{up, stepsOf, unitsOf}
+use Rattle.nearest.specs.Nearest.{up, stepsOf, unitsOf}
 use Rattle.rounding.specs.Limits.{maxPlaces, maxFactor, maxWord, inWord}
-use Rattle.rounding.proofs.Nearest.{by-le}
+use Rattle.nearest.proofs.Nearest.{by-le}
 
 -- ---- what the exact value and the step share
 

@@ -6,7 +6,7 @@ use lib.Dec.{ltb, leb}
 use lib.ListN.{length}
 use Rattle.decimal.specs.Choice.{if_then_else_, both}
 use Rattle.decimal.specs.Digits.{figures}
-use Rattle.rounding.specs.Nearest.{unitsOf}
+use Rattle.nearest.specs.Nearest.{unitsOf}
 
 -- the digits of a rounded value
 abbrev pub width : ℕ

@@ -8,7 +8,7 @@ ghost use mathlib.Core.Bool.{true};
 ghost use Prim.Native.Nat.{_+_, _*_, _-_, _/_, _%_, _^_, _≤_, _<_};
 ghost use lib.ListN.{length};
 ghost use Rattle.decimal.specs.Digits.{AllDigits, value, figures};
-ghost use Rattle.rounding.specs.Nearest.{up, stepsOf, unitsOf};
+ghost use Rattle.nearest.specs.Nearest.{up, stepsOf, unitsOf};
 ghost use Rattle.rounding.specs.Limits.{width, maxInteger, maxPlaces, maxFraction, maxFactor, maxStep, maxWord, within, inWord, rounded};
 use decimal::DigitValue;
 use decimal::Places;

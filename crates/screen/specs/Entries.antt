@@ -10,10 +10,10 @@ use Rattle.answer.specs.declared.Keyword.the-variants.{Zero, One, Two, Few, Man
 use Rattle.number.specs.declared.Number.{Number}
 use Rattle.number.specs.declared.Reading.{Reading}
 use Rattle.number.specs.declared.Reading.the-variants.{Is, Refused as NumberRefused}
-use Rattle.plural.specs.declared.Selection.{Selection}
-use Rattle.plural.specs.declared.Selection.the-variants.{Word, Refused as SelectionRefused}
-use Rattle.pack_check.specs.declared.PackCheck.{PackCheck}
-use Rattle.pack_check.specs.declared.PackCheck.the-variants.{Passes, Refused as CheckRefused}
+use Rattle.select.specs.declared.Selection.{Selection}
+use Rattle.select.specs.declared.Selection.the-variants.{Word, Refused as SelectionRefused}
+use Rattle.check_text.specs.declared.PackCheck.{PackCheck}
+use Rattle.check_text.specs.declared.PackCheck.the-variants.{Passes, Refused as CheckRefused}
 use Rattle.print.specs.declared.Printed.{Printed}
 use Rattle.print.specs.declared.Printed.the-variants.{Text, Refused as PrintRefused}
 

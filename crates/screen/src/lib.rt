@@ -11,19 +11,19 @@ ghost use lib.ListN.{length, take, set};
 ghost use lib.Seq.{sets};
 ghost use Rattle.answer.specs.Table.{numberOf, figuresOf};
 ghost use Rattle.number.specs.Reading.{readNumber};
-ghost use Rattle.select.specs.Select.{selectOf};
-ghost use Rattle.pack_check.specs.Check.{checkPack};
+ghost use Rattle.select_text.specs.Select.{selectOf};
+ghost use Rattle.check_text.specs.Check.{checkPack};
 ghost use Rattle.print.specs.Outcome.{outcome, answerOf, areaOf};
 ghost use Rattle.screen.specs.Entries.{noted, signOf, operandsOf, wordNumber, readCode, readFigures, selectCode, selectFigures, checkCode, checkFigures, printCode, printFigures};
 use answer::Keyword;
 use answer::Refusal;
+use check_text::PackCheck;
 use decimal::num::fewer;
 use decimal::num::wide_byte;
 use number::Number;
 use number::Reading;
-use pack_check::PackCheck;
-use plural::Selection;
 use print::Printed;
+use select::Selection;
 
 // Stores a figure at a place, if there is one.
 fn put(figures: &mut [u64], at: usize, x: u64)
@@ -144,7 +144,7 @@ pub extern "C" fn okw_select(pack: &[u8], number: &[u8], figures: &mut [u64; 8])
     ensures { λ r. ⌜ r ≡ selectCode (selectOf (now (pack .entry)) (now (number .entry))) ⌝ }
     ensures { λ _. ⌜ now (figures .exit) ≡ noted (selectFigures (selectOf (now (pack .entry)) (now (number .entry)))) (now (figures .entry)) ⌝ }
 {
-    let selection = select::select(pack, number);
+    let selection = select_text::select(pack, number);
     match selection {
         Selection::Word(k) => note_one(figures, word_number(k)),
         Selection::Refused(r) => note_refusal(figures, r),
@@ -157,7 +157,7 @@ pub extern "C" fn okw_check(pack: &[u8], figures: &mut [u64; 8]) -> u32
     ensures { λ r. ⌜ r ≡ checkCode (checkPack (now (pack .entry))) ⌝ }
     ensures { λ _. ⌜ now (figures .exit) ≡ noted (checkFigures (checkPack (now (pack .entry)))) (now (figures .entry)) ⌝ }
 {
-    let checked = pack_check::check(pack);
+    let checked = check_text::check(pack);
     match checked {
         PackCheck::Passes => note_none(figures),
         PackCheck::Refused(r) => note_refusal(figures, r),

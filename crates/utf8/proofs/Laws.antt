@@ -9,7 +9,7 @@ use borrow.Author.Tests.{eq-eqb, ne-eqb, lt-ltb, le-ltb}
 use lib.ListN.{length, getD, drop, drop-of-length-le, length-drop}
 use lib.Seq.{drop-cons, drop-drop}
 use Rattle.utf8.specs.Utf8.{continues, charLen, utf8From}
-use Rattle.utf8.proofs.Lower.{drop-some}
+use Rattle.decimal.proofs.Runs.{drop-some}
 
 -- ---- bytes from 80 to BF
 

@@ -9,10 +9,9 @@ use lib.Dec.{eqb, ltb}
 use lib.ListN.{length, take, drop, length-append}
 use lib.Seq.{drop-at}
 use Rattle.decimal.specs.Choice.{both}
-use Rattle.decimal.proofs.Choices.{tested, not-both}
+use Rattle.decimal.proofs.Choices.{tested, not-both, both-true}
 use Rattle.utf8.specs.Utf8.{charBytes, lowSecond, highSecond, continues, restFits, charLen, isUtf8}
 use Rattle.utf8.specs.Scalar.{isScalar, spell, spellAll, allScalar, Begins, IsText}
-use Rattle.utf8.proofs.Lower.{both-true}
 use Rattle.utf8.proofs.Laws.{utf8-one, utf8-none}
 
 -- ---- the rows of the table: first and second byte, and those behind them

@@ -24,14 +24,8 @@ of-place-requires c κs = search needs
 enum-known-r-2 : tie.Need-enum-known-r-2
 enum-known-r-2 c = search needs
 
-of-pair-requires : tie.Need-of-pair-requires
-of-pair-requires c κs = search needs
-
-enum-known-r-3 : tie.Need-enum-known-r-3
-enum-known-r-3 c = search needs
-
-of-clash-requires : tie.Need-of-clash-requires
-of-clash-requires c κs = search needs
+of-rules-requires : tie.Need-of-rules-requires
+of-rules-requires c κs = search needs
 
 enum-told-3 : tie.Need-enum-told-3
 enum-told-3 c = search needs
@@ -45,17 +39,11 @@ enum-told-4 c = search needs
 none-requires-4 : tie.Need-none-requires-4
 none-requires-4 c κs = search needs
 
-enum-told-5 : tie.Need-enum-told-5
-enum-told-5 c = search needs
+enum-known-r-3 : tie.Need-enum-known-r-3
+enum-known-r-3 c = search needs
 
-none-requires-5 : tie.Need-none-requires-5
-none-requires-5 c κs = search needs
-
-enum-known-r-4 : tie.Need-enum-known-r-4
-enum-known-r-4 c = search needs
-
-one-requires : tie.Need-one-requires
-one-requires c κs = search needs
+of-printing-requires : tie.Need-of-printing-requires
+of-printing-requires c κs = search needs
 
 returns : tie.Need-returns
 returns c = rw (c .before .enum-told .given .1) (c .none .ensures)
@@ -67,22 +55,16 @@ returns-3 : tie.Need-returns-3
 returns-3 c = rw (c .before .before .r .given .1) (c .of-place .ensures)
 
 returns-4 : tie.Need-returns-4
-returns-4 c = rw (c .before .before .r2 .given .1) (c .of-pair .ensures)
+returns-4 c = rw (c .before .before .r2 .given .1) (c .of-rules .ensures)
 
 returns-5 : tie.Need-returns-5
-returns-5 c = rw (c .before .before .r3 .given .1) (c .of-clash .ensures)
+returns-5 c = rw (c .before .enum-told3 .given .1) (c .none3 .ensures)
 
 returns-6 : tie.Need-returns-6
-returns-6 c = rw (c .before .enum-told3 .given .1) (c .none3 .ensures)
+returns-6 c = rw (c .before .enum-told4 .given .1) (c .none4 .ensures)
 
 returns-7 : tie.Need-returns-7
-returns-7 c = rw (c .before .enum-told4 .given .1) (c .none4 .ensures)
-
-returns-8 : tie.Need-returns-8
-returns-8 c = rw (c .before .enum-told5 .given .1) (c .none5 .ensures)
-
-returns-9 : tie.Need-returns-9
-returns-9 c = rw (c .before .before .r4 .given .1) (c .one .ensures)
+returns-7 c = rw (c .before .before .r3 .given .1) (c .of-printing .ensures)
 
 pub figures-spec : {M : Type 1} → statement M
 figures-spec =
@@ -95,23 +77,17 @@ figures-spec =
     enum-known-r
     of-place-requires
     enum-known-r-2
-    of-pair-requires
-    enum-known-r-3
-    of-clash-requires
+    of-rules-requires
     enum-told-3
     none-requires-3
     enum-told-4
     none-requires-4
-    enum-told-5
-    none-requires-5
-    enum-known-r-4
-    one-requires
+    enum-known-r-3
+    of-printing-requires
     returns
     returns-2
     returns-3
     returns-4
     returns-5
     returns-6
-    returns-7
-    returns-8
-    returns-9)
+    returns-7)

@@ -15,10 +15,10 @@ use Rattle.bench_line.proofs.append_figures.Tie as tie
 
 abbrev Inv-loop : tie.InvT-loop
 Inv-loop out₀ at f values end₀ k₀ out end k =
-    (k ≤ 6) × (end ≤ most) × (length out₀ ≤ most) × (length values ≡ 6) × Left out₀ at (spaced (take (f .count) values)) out end (spaced (drop k (take (f .count) values)))
+    (k ≤ 7) × (end ≤ most) × (length out₀ ≤ most) × (length values ≡ 7) × Left out₀ at (spaced (take (f .count) values)) out end (spaced (drop k (take (f .count) values)))
 
 abbrev μ-loop : tie.MeasureT-loop
-μ-loop out₀ at f values end₀ k₀ out end k = 6 - k
+μ-loop out₀ at f values end₀ k₀ out end k = 7 - k
 
 loop-holds : tie.Need-loop-holds Inv-loop μ-loop
 loop-holds c = (omega arith, omega arith, omega arith, search needs, start _ _ _)

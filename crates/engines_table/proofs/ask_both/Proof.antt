@@ -1,5 +1,5 @@
 -- `engines_table::ask_both` has two equal answers, by the contracts of the two engines.
-use Rattle.rules.specs.Held.{lent}
+use Rattle.pack_rules.specs.Held.{lent}
 use Rattle.engines_table.proofs.Agree.{engines-agree}
 use borrow.Author.Needs.{needs}
 use Rattle.engines_table.proofs.ask_both.Statement.{statement}

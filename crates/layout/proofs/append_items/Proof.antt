@@ -4,7 +4,7 @@ use Prim.Native.Nat.{_≤_, _-_}
 use lib.ListN.{length, drop}
 use Rattle.area.specs.Area.{most}
 use Rattle.area.proofs.Pieces.{Left, start, done}
-use Rattle.lexer.specs.Items.{itemsFrom, items}
+use Rattle.pattern_token.specs.Items.{itemsFrom, items}
 use Rattle.symbols.specs.Entries.{symbolIn, standardRecord}
 use Rattle.layout.specs.Text.{rendered}
 use Rattle.layout.proofs.Writing.{affix-write, affix-done}

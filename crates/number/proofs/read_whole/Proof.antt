@@ -1,9 +1,10 @@
 -- `number::read_whole` answers what is read behind the sign.
 use borrow.Author.Tests.{eq-eqb, ne-eqb}
-use Rattle.decimal.proofs.Runs.{digits-run}
+use Rattle.decimal.proofs.Runs.{of-run}
 use borrow.Author.Needs.{needs}
 use Rattle.number.proofs.read_whole.Statement.{statement}
 use Rattle.number.proofs.read_whole.Tie as tie
+use Rattle.decimal.specs.Digits.{isDigit}
 
 digit-run-requires : tie.Need-digit-run-requires
 digit-run-requires c κs = search needs
@@ -23,7 +24,7 @@ after-requires c κs = search needs
 read-point-requires : tie.Need-read-point-requires
 read-point-requires c κs =
     let s = c .before .before .before .before .before .args .s .now in
-    rw (c .before .upto .ensures, c .before .before .before .digit-run .ensures .0) (digits-run s)
+    rw (c .before .upto .ensures, c .before .before .before .digit-run .ensures .0) (of-run isDigit s)
 
 returns-2 : tie.Need-returns-2
 returns-2 c =

@@ -6,8 +6,8 @@ use Prim.Native.Nat.{_^_, _≤_, _<_}
 use borrow.Author.Tests.{lt-ltb, le-ltb}
 use lib.ListN.{length}
 use lib.Seq.{length-take-le}
-use Rattle.decimal.specs.Digits.{value, first, trim, AllDigits}
-use Rattle.decimal.proofs.Runs.{digits-append, digits-drop, digits-take}
+use Rattle.decimal.specs.Digits.{value, first, trim, AllDigits, isDigit}
+use Rattle.decimal.proofs.Runs.{of-append, of-drop, of-take}
 use Rattle.decimal.proofs.Values.{digits-first}
 use Rattle.decimal.proofs.Zeros.{trim-front}
 use Rattle.number.specs.Limits.{maxDigits, maxPlaces}
@@ -33,7 +33,7 @@ returns c =
     let n = c .before .before .before .value-of in
     let x = first (a .e) (a .fraction .now) in
     let k = shift-value (a .whole .now) x (n .result) (c .before .before .value-first .result) (n .ensures) (c .before .before .value-first .ensures) in
-    let d = digits-append (a .whole .now) x (s .pre .1) (digits-first (a .e) (a .fraction .now) (s .pre .2)) in
+    let d = of-append isDigit (a .whole .now) x (s .pre .1) (digits-first (a .e) (a .fraction .now) (s .pre .2)) in
     rw (lt-ltb maxDigits (significant (a .whole .now ++ x)) (over-digits (a .whole .now ++ x) d (omega arith))) (c .refuse .ensures)
 
 after-requires : tie.Need-after-requires
@@ -50,7 +50,7 @@ returns-2 c =
     let n = c .before .before .before .before .before .value-of in
     let x = first (a .e) (a .fraction .now) in
     let k = shift-value (a .whole .now) x (n .result) (m .result) (n .ensures) (m .ensures) in
-    let d = digits-append (a .whole .now) x (s .pre .1) (digits-first (a .e) (a .fraction .now) (s .pre .2)) in
+    let d = of-append isDigit (a .whole .now) x (s .pre .1) (digits-first (a .e) (a .fraction .now) (s .pre .2)) in
     rw (le-ltb maxDigits (significant (a .whole .now ++ x)) (within-digits (a .whole .now ++ x) d (omega arith)), ← (c .before .before .after .ensures), lt-ltb maxPlaces (length (c .before .before .after .result .now)) (c .before .if2 .taken)) (c .refuse2 .ensures)
 
 trimmed-len-requires : tie.Need-trimmed-len-requires
@@ -90,10 +90,10 @@ returns-3 c =
     let v-small = c .before .before .before .before .if2 .left in
     let x = first (a .e) (a .fraction .now) in
     let k = shift-value (a .whole .now) x (n .result) (m .result) (n .ensures) (m .ensures) in
-    let d = digits-append (a .whole .now) x (s .pre .1) (digits-first (a .e) (a .fraction .now) (s .pre .2)) in
-    let dr : AllDigits rest = rw (r .ensures) (digits-drop (a .e) (a .fraction .now) (s .pre .2)) in
+    let d = of-append isDigit (a .whole .now) x (s .pre .1) (digits-first (a .e) (a .fraction .now) (s .pre .2)) in
+    let dr : AllDigits rest = rw (r .ensures) (of-drop isDigit (a .e) (a .fraction .now) (s .pre .2)) in
     let kt : kept ≡ trim rest = u .ensures ∙ rw (w .ensures .0) (sym (trim-front rest)) in
-    let dk : AllDigits kept = rw (u .ensures) (digits-take (w .result) rest dr) in
+    let dk : AllDigits kept = rw (u .ensures) (of-take isDigit (w .result) rest dr) in
     let lk : length kept ≡ w .result = rw (u .ensures) (length-take-le (w .result) rest (w .ensures .1)) in
     let vi : value (a .whole .now ++ x) ≡ m .result = omega arith in
     let vf : value rest ≡ f .result = small-value rest (f .result) dr v-small (f .ensures) in

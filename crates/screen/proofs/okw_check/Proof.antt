@@ -1,5 +1,5 @@
 -- `screen::okw_check` answers by the case of the check.
-use Rattle.pack_check.specs.Check.{checkPack}
+use Rattle.check_text.specs.Check.{checkPack}
 use Rattle.screen.proofs.Noted.{told}
 use Rattle.screen.specs.Entries.{noted, checkCode, checkFigures}
 use borrow.Author.Needs.{needs}

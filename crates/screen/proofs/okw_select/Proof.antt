@@ -1,6 +1,6 @@
 -- `screen::okw_select` answers by the case of the selection.
 use mathlib.Core.Path.{ap, _∙_}
-use Rattle.select.specs.Select.{selectOf}
+use Rattle.select_text.specs.Select.{selectOf}
 use Rattle.screen.proofs.Noted.{told}
 use mathlib.Core.List.{[], _∷_}
 use Rattle.screen.specs.Entries.{noted, selectCode, selectFigures}

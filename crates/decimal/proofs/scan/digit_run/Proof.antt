@@ -3,7 +3,7 @@ use mathlib.Core.Path.{_≡_, sym, _∙_}
 use Prim.Native.Nat.{_≤_, _-_, _+_}
 use lib.ListN.{length, drop}
 use native.Mathlib.Omega.{arith}
-use Rattle.decimal.specs.Digits.{run}
+use Rattle.decimal.specs.Digits.{isDigit, run}
 use Rattle.decimal.proofs.Runs.{run-more, run-end, run-out}
 use borrow.Author.Needs.{needs}
 use Rattle.decimal.proofs.scan.digit_run.Statement.{statement}
@@ -34,17 +34,17 @@ loop-again : tie.Need-loop-again Inv-loop μ-loop
 loop-again c =
     let l = c .before .before .before .before in
     let s = l .before .before .args .s .now in
-    omega (arith, run-more s (l .loop .i) (c .before .before .before .loop-test .taken) (sym (c .before .is-digit .ensures) ∙ c .if1 .taken))
+    omega (arith, run-more isDigit s (l .loop .i) (c .before .before .before .loop-test .taken) (sym (c .before .is-digit .ensures) ∙ c .if1 .taken))
 
 returns : tie.Need-returns Inv-loop μ-loop
 returns c =
     let l = c .before .before .before .before in
     let s = l .before .before .args .s .now in
-    omega (arith, run-end s (l .loop .i) (c .before .before .before .loop-test .taken) (sym (c .before .is-digit .ensures) ∙ c .if1 .left))
+    omega (arith, run-end isDigit s (l .loop .i) (c .before .before .before .loop-test .taken) (sym (c .before .is-digit .ensures) ∙ c .if1 .left))
 
 returns-2 : tie.Need-returns-2 Inv-loop μ-loop
 returns-2 c =
-    omega (arith, run-out (c .before .before .before .args .s .now) (c .before .loop .i) (c .loop-test .left))
+    omega (arith, run-out isDigit (c .before .before .before .args .s .now) (c .before .loop .i) (c .loop-test .left))
 
 pub digit-run-spec : {M : Type 1} → statement M
 digit-run-spec =

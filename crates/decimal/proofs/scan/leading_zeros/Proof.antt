@@ -3,8 +3,9 @@ use mathlib.Core.Path.{_≡_}
 use Prim.Native.Nat.{_≤_, _-_, _+_}
 use lib.ListN.{length, drop}
 use native.Mathlib.Omega.{arith}
-use Rattle.decimal.specs.Digits.{lead}
-use Rattle.decimal.proofs.Zeros.{lead-more, lead-end, lead-out}
+use borrow.Author.Tests.{eq-eqb, ne-eqb}
+use Rattle.decimal.specs.Digits.{isZero, lead}
+use Rattle.decimal.proofs.Runs.{run-more, run-end, run-out}
 use borrow.Author.Needs.{needs}
 use Rattle.decimal.proofs.scan.leading_zeros.Statement.{statement}
 use Rattle.decimal.proofs.scan.leading_zeros.Tie as tie
@@ -30,16 +31,16 @@ loop-less c = search needs
 loop-again : tie.Need-loop-again Inv-loop μ-loop
 loop-again c =
     let l = c .before .before .before in
-    omega (arith, lead-more (l .before .args .s .now) (l .loop .i) (c .before .before .loop-test .taken) (c .if1 .taken))
+    omega (arith, run-more isZero (l .before .args .s .now) (l .loop .i) (c .before .before .loop-test .taken) (eq-eqb _ 48 (c .if1 .taken)))
 
 returns : tie.Need-returns Inv-loop μ-loop
 returns c =
     let l = c .before .before .before in
-    omega (arith, lead-end (l .before .args .s .now) (l .loop .i) (c .before .before .loop-test .taken) (c .if1 .left))
+    omega (arith, run-end isZero (l .before .args .s .now) (l .loop .i) (c .before .before .loop-test .taken) (ne-eqb _ 48 (c .if1 .left)))
 
 returns-2 : tie.Need-returns-2 Inv-loop μ-loop
 returns-2 c =
-    omega (arith, lead-out (c .before .before .args .s .now) (c .before .loop .i) (c .loop-test .left))
+    omega (arith, run-out isZero (c .before .before .args .s .now) (c .before .loop .i) (c .loop-test .left))
 
 pub leading-zeros-spec : {M : Type 1} → statement M
 leading-zeros-spec =

@@ -1,0 +1,12 @@
+pub mod Seek
+pub mod Segments
+pub mod Check
+pub mod Fast
+pub mod Levels
+pub mod Claims
+pub mod Read
+pub mod Spots
+pub mod Ready
+pub mod Bounded
+pub mod Floors
+pub mod Profile

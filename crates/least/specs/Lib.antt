@@ -1,2 +1,0 @@
-pub mod Seek
-pub mod Segments

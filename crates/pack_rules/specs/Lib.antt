@@ -1,0 +1,4 @@
+pub mod Room
+pub mod Syntax
+pub mod Held
+pub mod Stretch

@@ -1,4 +1,0 @@
-pub mod Meanings
-pub mod Masks
-pub mod Selections
-pub mod Chosen

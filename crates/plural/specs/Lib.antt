@@ -1,4 +1,0 @@
-pub mod Meaning
-pub mod Select
-pub mod Places
-pub mod Words

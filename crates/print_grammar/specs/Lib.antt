@@ -1,0 +1,4 @@
+pub mod Digits
+pub mod Claims
+pub mod Text
+pub mod Clean

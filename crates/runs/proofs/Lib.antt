@@ -1,5 +1,0 @@
-pub mod Alikes
-pub mod Sweeping
-pub mod Levelling
-pub mod Keeping
-pub mod Marking
