@@ -2,13 +2,11 @@
 //
 // specs/Next.antt has the automaton; proofs/Phases.antt shows that it goes with the grammar's states.
 ghost use mathlib.Core.Path.{_≡_};
-ghost use mathlib.Core.Bool.{true, false};
-ghost use mathlib.Core.List.{[], _∷_};
+ghost use mathlib.Core.Bool.{true};
 ghost use Rattle.decimal.specs.Choice.{if_then_else_};
 ghost use Rattle.pack_token.specs.Spelling.{same};
-ghost use Rattle.pack_grammar.specs.Grammar.{and, isWord, isNumber, isOperand};
+ghost use Rattle.pack_grammar.specs.Grammar.{isWord, isNumber, isOperand};
 ghost use Rattle.pack_phase.specs.Next.{afterSign, afterRelation, nextPhase, phaseNumber, samePhase};
-use decimal::cut::after;
 use decimal::scan::is_digit;
 use pack_token::first_byte;
 use pack_token::is_letter;
@@ -44,37 +42,11 @@ fn is_number(t: &[u8]) -> bool
     is_digit(first_byte(t))
 }
 
-// The text t is the one byte b.
-fn is_byte(t: &[u8], b: u8) -> bool
-    ensures { λ r. ⌜ r ≡ same (now (t .entry)) (b ∷ []) ⌝ }
+// Whether t is w, or else what is handed in.
+fn same_or(t: &[u8], w: &[u8], otherwise: bool) -> bool
+    ensures { λ r. ⌜ r ≡ (if same (now (t .entry)) (now (w .entry)) then true else otherwise) ⌝ }
 {
-    if t.len() == 1 {
-        return t[0] == b;
-    }
-    false
-}
-
-// The text t is the two bytes a and b.
-fn is_pair(t: &[u8], a: u8, b: u8) -> bool
-    ensures { λ r. ⌜ r ≡ same (now (t .entry)) (a ∷ b ∷ []) ⌝ }
-{
-    if first_byte(t) == a {
-        return is_byte(after(t, 1), b);
-    }
-    false
-}
-
-fn is_and(t: &[u8]) -> bool
-    ensures { λ r. ⌜ r ≡ same (now (t .entry)) and ⌝ }
-{
-    same_text(t, b"and")
-}
-
-// Whether t is the one byte b, or else what is handed in.
-fn byte_or(t: &[u8], b: u8, otherwise: bool) -> bool
-    ensures { λ r. ⌜ r ≡ (if same (now (t .entry)) (b ∷ []) then true else otherwise) ⌝ }
-{
-    if is_byte(t, b) {
+    if same_text(t, w) {
         return true;
     }
     otherwise
@@ -83,77 +55,37 @@ fn byte_or(t: &[u8], b: u8, otherwise: bool) -> bool
 fn is_operand(t: &[u8]) -> bool
     ensures { λ r. ⌜ r ≡ isOperand (now (t .entry)) ⌝ }
 {
-    let a = byte_or(t, b'e', false);
-    let b = byte_or(t, b'c', a);
-    let c = byte_or(t, b'w', b);
-    let d = byte_or(t, b'v', c);
-    let e = byte_or(t, b't', d);
-    let f = byte_or(t, b'f', e);
-    let g = byte_or(t, b'i', f);
-    byte_or(t, b'n', g)
+    let a = same_or(t, b"e", false);
+    let b = same_or(t, b"c", a);
+    let c = same_or(t, b"w", b);
+    let d = same_or(t, b"v", c);
+    let e = same_or(t, b"t", d);
+    let f = same_or(t, b"f", e);
+    let g = same_or(t, b"i", f);
+    same_or(t, b"n", g)
 }
 
-// The phase where the test holds, else none.
-fn or_dead(b: bool, q: Phase) -> Phase
-    ensures { λ r. ⌜ r ≡ (if b then q else Phase.Dead) ⌝ }
+// The first where the test holds, else the second.
+fn pick(b: bool, p: Phase, q: Phase) -> Phase
+    ensures { λ r. ⌜ r ≡ (if b then p else q) ⌝ }
 {
-    if b {
-        return q;
-    }
-    Phase::Dead
+    if b { p } else { q }
 }
 
-// ---- The phase behind the token t, by the phase before it.
-
-fn at_colon(other: bool, t: &[u8]) -> Phase
-    ensures { λ r. ⌜ r ≡ nextPhase Phase.Colon other (now (t .entry)) ⌝ }
-{
-    if other {
-        return or_dead(is_byte(t, b':'), Phase::Nothing);
-    }
-    or_dead(is_byte(t, b':'), Phase::Operand)
-}
-
-fn at_sign(t: &[u8]) -> Phase
+fn after_sign(t: &[u8]) -> Phase
     ensures { λ r. ⌜ r ≡ afterSign (now (t .entry)) ⌝ }
 {
-    if is_byte(t, b'=') {
-        return Phase::Value;
-    }
-    or_dead(is_pair(t, b'!', b'='), Phase::Value)
+    let a = pick(same_text(t, b"!="), Phase::Value, Phase::Dead);
+    pick(same_text(t, b"="), Phase::Value, a)
 }
 
-fn at_modulus_or_sign(t: &[u8]) -> Phase
-    ensures { λ r. ⌜ r ≡ nextPhase Phase.ModulusOrSign false (now (t .entry)) ⌝ }
-{
-    if is_byte(t, b'%') {
-        return Phase::Modulus;
-    }
-    at_sign(t)
-}
-
-fn at_more(t: &[u8]) -> Phase
+fn after_relation(t: &[u8]) -> Phase
     ensures { λ r. ⌜ r ≡ afterRelation (now (t .entry)) ⌝ }
 {
-    if is_byte(t, b',') {
-        return Phase::Value;
-    }
-    if is_and(t) {
-        return Phase::Operand;
-    }
-    if is_pair(t, b'o', b'r') {
-        return Phase::Operand;
-    }
-    or_dead(is_byte(t, b';'), Phase::Name)
-}
-
-fn at_dots_or_more(t: &[u8]) -> Phase
-    ensures { λ r. ⌜ r ≡ nextPhase Phase.DotsOrMore false (now (t .entry)) ⌝ }
-{
-    if is_pair(t, b'.', b'.') {
-        return Phase::Upper;
-    }
-    at_more(t)
+    let a = pick(same_text(t, b";"), Phase::Name, Phase::Dead);
+    let b = pick(same_text(t, b"or"), Phase::Operand, a);
+    let c = pick(same_text(t, b"and"), Phase::Operand, b);
+    pick(same_text(t, b","), Phase::Value, c)
 }
 
 // The phase behind the token t; `other`: the token before it was `other`.
@@ -161,17 +93,26 @@ pub fn next_phase(p: Phase, other: bool, t: &[u8]) -> Phase
     ensures { λ r. ⌜ r ≡ nextPhase p other (now (t .entry)) ⌝ }
 {
     match p {
-        Phase::Name => or_dead(is_word(t), Phase::Colon),
-        Phase::Colon => at_colon(other, t),
-        Phase::Nothing => or_dead(is_byte(t, b';'), Phase::Name),
-        Phase::Operand => or_dead(is_operand(t), Phase::ModulusOrSign),
-        Phase::ModulusOrSign => at_modulus_or_sign(t),
-        Phase::Modulus => or_dead(is_number(t), Phase::Sign),
-        Phase::Sign => at_sign(t),
-        Phase::Value => or_dead(is_number(t), Phase::DotsOrMore),
-        Phase::DotsOrMore => at_dots_or_more(t),
-        Phase::Upper => or_dead(is_number(t), Phase::More),
-        Phase::More => at_more(t),
+        Phase::Name => pick(is_word(t), Phase::Colon, Phase::Dead),
+        Phase::Colon => {
+            let a = pick(other, Phase::Nothing, Phase::Operand);
+            pick(same_text(t, b":"), a, Phase::Dead)
+        }
+        Phase::Nothing => pick(same_text(t, b";"), Phase::Name, Phase::Dead),
+        Phase::Operand => pick(is_operand(t), Phase::ModulusOrSign, Phase::Dead),
+        Phase::ModulusOrSign => {
+            let a = after_sign(t);
+            pick(same_text(t, b"%"), Phase::Modulus, a)
+        }
+        Phase::Modulus => pick(is_number(t), Phase::Sign, Phase::Dead),
+        Phase::Sign => after_sign(t),
+        Phase::Value => pick(is_number(t), Phase::DotsOrMore, Phase::Dead),
+        Phase::DotsOrMore => {
+            let a = after_relation(t);
+            pick(same_text(t, b".."), Phase::Upper, a)
+        }
+        Phase::Upper => pick(is_number(t), Phase::More, Phase::Dead),
+        Phase::More => after_relation(t),
         Phase::Dead => Phase::Dead,
     }
 }
