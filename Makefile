@@ -9,6 +9,9 @@ SHELL := /bin/bash
 .SHELLFLAGS := -eu -o pipefail -c
 .PHONY: demo example pack bench test linked
 
+# A check copies its libraries to a temporary folder.
+export TMPDIR := $(shell .ci/temporary)
+
 SCREEN := target/staticlib/libscreen.a
 SOURCES := crates.txt $(shell find crates -name '*.rt' -o -name '*.antt')
 CARGO := cargo --offline --quiet

@@ -18,7 +18,7 @@ use check_laws::Bounds;
 use check_laws::Query;
 use check_laws::Span;
 use check_laws::limits;
-use check_places::floor;
+use check_least::least_from;
 use check_places::places;
 use decimal::num::lesser;
 use decimal::num::power;
@@ -46,7 +46,7 @@ fn tail_of<'a>(
         t: 1,
         odd: true,
     };
-    floor::least_from(columns, low, high, s, q, 0, least, end)
+    least_from(columns, low, high, s, q, 0, least, end)
 }
 
 // The least t by what is asked of t alone; there is none below the floor.
@@ -67,7 +67,7 @@ pub fn alone_of<'a>(
         t: 1,
         odd: true,
     };
-    floor::least_from(columns, low, high, s, q, 0, floor, limits::FRACTION_LIMIT)
+    least_from(columns, low, high, s, q, 0, floor, limits::FRACTION_LIMIT)
 }
 
 // The least t before k zeros, where t is the least by what is asked of t alone: where no relation asks f,
@@ -161,7 +161,7 @@ fn least_f<'a>(columns: &'a Columns, low: &'a RangeEnds, high: &'a RangeEnds, s:
         t: 0,
         odd: false,
     };
-    floor::least_from(columns, low, high, s, q, 1, 0, limits::FRACTION_LIMIT)
+    least_from(columns, low, high, s, q, 1, 0, limits::FRACTION_LIMIT)
 }
 
 // How many zeros f ends in, or 8 where it ends in more.

@@ -22,7 +22,7 @@ use check_laws::Floors;
 use check_laws::Query;
 use check_laws::Span;
 use check_laws::limits;
-use check_places::floor;
+use check_least::least_from;
 use check_places::order;
 use check_places::places;
 use decimal::DigitValue;
@@ -70,7 +70,7 @@ pub fn integer_of<'a>(
         odd: false,
     };
     let lo = lowest_of(e);
-    floor::least_from(columns, low, high, s, q, lo, floor, limits::INTEGER_LIMIT)
+    least_from(columns, low, high, s, q, lo, floor, limits::INTEGER_LIMIT)
 }
 
 // The number with e, with v and f as one number q, and with i; none where i is past the largest.

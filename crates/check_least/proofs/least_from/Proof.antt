@@ -1,9 +1,9 @@
--- `check_places::floor::least_from`: nothing below the floor passes, so the search that starts there finds the same.
+-- `check_least::least_from`: nothing below the floor passes, so the search that starts there finds the same.
 use Rattle.pack_rules.specs.Stretch.{table}
 use Rattle.check_laws.proofs.Flooring.{least-from, least-past}
 use borrow.Author.Needs.{needs}
-use Rattle.check_places.proofs.floor.least_from.Statement.{statement}
-use Rattle.check_places.proofs.floor.least_from.Tie as tie
+use Rattle.check_least.proofs.least_from.Statement.{statement}
+use Rattle.check_least.proofs.least_from.Tie as tie
 
 greater-requires : tie.Need-greater-requires
 greater-requires c κs = search needs
