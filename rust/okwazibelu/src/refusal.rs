@@ -64,7 +64,7 @@ pub enum Refusal {
     Marks,
     /// 40: symbol record: unknown kind, body cut short, or symbol twice.
     SymbolRecord,
-    /// 41: symbol record: body not one UTF-8 code point, or an ASCII digit.
+    /// 41: symbol record: body not one UTF-8 code point, or an ASCII digit; minimum grouping digits not 1 to 4.
     SymbolBody,
     /// 50: printing a number with an exponent.
     PrintExponent,
