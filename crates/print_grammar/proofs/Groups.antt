@@ -77,7 +77,7 @@ grouped-few zero g m p q d h = rw (lt-ltb (length d) (p + m) h) (grouped-none ze
 mark-few : (p q r : ℕ) → r < p → mark p q r ≡ false
 mark-few p q r h = tested (eqb p 0) (λ a. rw a) (λ a. rw (a, lt-ltb r p h))
 
-primary-plain : (zero : ℕ) (g : List ℕ) (p q : ℕ) (d : List ℕ) → length d ≤ p → grouped zero g p q d ≡ spelled zero d
+pub primary-plain : (zero : ℕ) (g : List ℕ) (p q : ℕ) (d : List ℕ) → length d ≤ p → grouped zero g p q d ≡ spelled zero d
 primary-plain zero g p q [] h = refl
 primary-plain zero g p q (b ∷ d) h = rw (mark-few p q (length d) h) (ap (λ (l : List ℕ). spell zero b ++ l) (primary-plain zero g p q d (omega arith)))
 

@@ -206,6 +206,22 @@ fn grouping() {
     }
 }
 
+/// The records of the languages whose minimum is not 1.
+#[test]
+fn languages() {
+    let table = include_str!("../../plain/tests/data/grouping-symbols.tsv");
+    for row in table.lines().filter(|line| !line.starts_with('#')) {
+        let record: Vec<u8> = (row.rsplit('\t').next().unwrap().split(' '))
+            .map(|byte| u8::from_str_radix(byte, 16).unwrap())
+            .collect();
+        for pattern in ["#,##0", "0,000", "00,000", "#,##0.0#"] {
+            for number in ["5", "1234", "12345", "123456", "1234567", "-1234.5"] {
+                sides::print([&record, pattern.as_bytes(), number.as_bytes()], AREA);
+            }
+        }
+    }
+}
+
 /// All numbers below 200 with two fraction digits, rounded by several steps.
 #[test]
 fn rounding() {
