@@ -44,11 +44,11 @@ ends-complete p q left h g =
 pub mark-sound : (minimum primary secondary digits left : ℕ) → mark (groupSize minimum primary digits) secondary left ≡ true
     → SymbolStands minimum primary secondary digits left
 mark-sound m p q n left e =
-    tested (ltb n (p + m)) (λ k. not-both (rw k at e) refl) (λ k. record { enough = ltb-false n (p + m) k; ends = ends-sound p q left (rw k at e) })
+    tested (ltb n (p + m)) (λ k. not-both (rw k at e) refl) (λ k. record { enough = omega (arith, ltb-false n (p + m) k); ends = ends-sound p q left (rw k at e) })
 
 pub mark-complete : (minimum primary secondary digits left : ℕ) → 0 < secondary → SymbolStands minimum primary secondary digits left
     → mark (groupSize minimum primary digits) secondary left ≡ true
-mark-complete m p q n left h s = rw (le-ltb n (p + m) (s .enough)) (ends-complete p q left h (s .ends))
+mark-complete m p q n left h s = rw (le-ltb n (p + m) (omega (arith, s .enough))) (ends-complete p q left h (s .ends))
 
 -- no symbol stands exactly where the digits number fewer than the primary group and the minimum
 pub none-stands : (minimum primary secondary digits : ℕ) → 0 < minimum → 0 < primary

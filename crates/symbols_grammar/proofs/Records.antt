@@ -53,7 +53,7 @@ kind-spelled y n h k =
 
 entry-fixed : (e : Entry) → IsEntry e → Fixed lengthOf e
 entry-fixed e w =
-    let k : kindOf (e .kind) ≡ Known (w .symbol) (length (e .body)) = rw (w .halves) (kind-spelled (w .symbol) (length (e .body)) (w .least) (w .most)) in
+    let k : kindOf (e .kind) ≡ Known (w .symbol) (length (e .body)) = rw (w .halves) (kind-spelled (w .symbol) (length (e .body)) (w .least) (omega (arith, w .most))) in
     record { size = rw k; some = omega (arith, w .least) }
 
 fixed-entry : (e : Entry) → Fixed lengthOf e → IsEntry e
