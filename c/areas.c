@@ -195,6 +195,8 @@ static void prints(void) {
     sizes("", 0, "0.0", "0.349", "0.3");
     sizes("", 0, "#,##0.##", "1234.567", "1,234.57");
     sizes("\x11\x2C\x21\x20", 4, "#,##0.##", "1234.567", "1 234,57");
+    sizes("\x71\x02", 2, "#,##0", "1234", "1234");
+    sizes("\x71\x02", 2, "#,##0", "12345", "12,345");
     sizes("", 0, "0.00;(0.00)", "-3.1415", "(3.14)");
     sizes("\x33\xE2\x88\x92", 4, "0 'm'", "-7", "\xE2\x88\x92" "7 m");
 }
@@ -220,11 +222,12 @@ static void lengths(void) {
     memset(long_text, '0', sizeof long_text);
     refused("print: 65 bytes of number", print("", 0, "0", 1, long_text, 65, ROOM), 10);
     refused("print: an exponent", print("", 0, "0", 1, "1c3", 3, ROOM), 50);
-    char symbols[31] = "\x14\xF0\x9F\x98\x80\x24\xF0\x9F\x98\x80\x34\xF0\x9F\x98\x80"
-                       "\x44\xF0\x9F\x98\x80\x54\xF0\x9F\x98\x80\x64\xF0\x9F\x98\x80";
-    one_is("print: 30 bytes of symbols", print(symbols, 30, "0.0", 3, "1.5", 3, ROOM), 0, 6);
-    area_is("print: 30 bytes of symbols", "1\xF0\x9F\x98\x80" "5", 6);
-    refused("print: 31 bytes of symbols", print(symbols, 31, "0.0", 3, "1.5", 3, ROOM), 40);
+    char symbols[33] = "\x14\xF0\x9F\x98\x80\x24\xF0\x9F\x98\x80\x34\xF0\x9F\x98\x80"
+                       "\x44\xF0\x9F\x98\x80\x54\xF0\x9F\x98\x80\x64\xF0\x9F\x98\x80"
+                       "\x71\x02";
+    one_is("print: 32 bytes of symbols", print(symbols, 32, "0.0", 3, "1.5", 3, ROOM), 0, 6);
+    area_is("print: 32 bytes of symbols", "1\xF0\x9F\x98\x80" "5", 6);
+    refused("print: 33 bytes of symbols", print(symbols, 33, "0.0", 3, "1.5", 3, ROOM), 40);
 }
 
 int main(void) {

@@ -31,7 +31,7 @@
  *   35  step above 999,999 units of the last place
  *   36  over one percent or permille mark in a subpattern, or the two subpatterns differ in it
  *   40  symbol record: unknown kind, body cut short, or symbol twice
- *   41  symbol record: body not one UTF-8 code point, or an ASCII digit
+ *   41  symbol record: body not one UTF-8 code point, an ASCII digit, or minimum not 01 to 04
  *   50  printing a number with an exponent
  *   51  text longer than the output area [needed]
  *
@@ -69,7 +69,8 @@ uint32_t okw_select(const uint8_t *pack, size_t pack_len,
 uint32_t okw_check(const uint8_t *pack, size_t pack_len, uint64_t figures[8]);
 
 /* Prints a number through a pattern such as `#,##0.##`, with the symbols of a symbol record (may be
- * empty) and the standard symbols where it lacks one. Figure: the text's length; the text stands at
+ * empty) and the standard symbols where it lacks one; its kind 71 sets the minimum grouping digits,
+ * 1 to 4, which are 1 without it. Figure: the text's length; the text stands at
  * the front of out. Refusals: 40 and 41, 30 to 36, 10 to 15, 50, 51; they leave out as it was. */
 uint32_t okw_print(const uint8_t *symbols, size_t symbols_len,
                    const uint8_t *pattern, size_t pattern_len,

@@ -6,11 +6,13 @@ use Prim.Native.Nat.{ℕ, suc, _+_, _-_, _%_, _≤_, _<_, min, max}
 use native.Mathlib.Omega.{arith}
 use native.Mathlib.Numerals.{add-one}
 use native.Mathlib.Nat.{mod-zero}
-use lib.Dec.{eqb}
+use borrow.Author.Tests.{lt-ltb, le-ltb}
+use lib.Dec.{eqb, ltb}
 use lib.ListN.{length, getD, take, drop, drop-of-length-le, length-drop}
 use lib.Seq.{drop-cons}
 use Rattle.decimal.specs.Choice.{if_then_else_}
 use Rattle.decimal.specs.Digits.{lead, trim}
+use Rattle.decimal.proofs.Choices.{tested}
 use Rattle.area.specs.Area.{Wrote, most}
 use Rattle.area.proofs.Pieces.{Left, again}
 use Rattle.pattern_token.specs.declared.Token.{Token}
@@ -20,8 +22,8 @@ use Rattle.symbols.specs.declared.Symbol.{Symbol}
 use Rattle.symbols.specs.declared.Symbol.the-variants.{Decimal, Group}
 use Rattle.pattern_reader.specs.declared.Span.{Span}
 use Rattle.pattern_reader.specs.declared.Pattern.{Pattern}
-use Rattle.layout.specs.Layout.{wholeDigits, fractionDigits, zeroDigit, spell, mark, grouped, body}
-use Rattle.layout.specs.Text.{render, rendered, affixText, numberText}
+use Rattle.layout.specs.Layout.{wholeDigits, fractionDigits, zeroDigit, spell, mark, groupSize, grouped, body}
+use Rattle.layout.specs.Text.{render, rendered, affixText, minimumIn, numberText}
 
 -- nothing is written
 pub nothing : (o : List ℕ) (a : ℕ) → a ≤ most → Wrote o a [] o a
@@ -59,6 +61,17 @@ grouped-end zero g p q d i h = rw (drop-of-length-le d h)
 pub mark-zero : (left primary secondary : ℕ) → secondary ≡ 0 → eqb (left - primary) 0 ≡ eqb ((left - primary) % secondary) 0
 mark-zero left primary secondary e = rw (e, mod-zero (left - primary))
 
+-- ---- the primary size
+
+pub size-none : (minimum digits : ℕ) → 0 ≡ groupSize minimum 0 digits
+size-none minimum digits = tested (ltb digits (0 + minimum)) (λ k. rw k) (λ k. rw k)
+
+pub size-few : (minimum primary digits : ℕ) → digits < primary + minimum → 0 ≡ groupSize minimum primary digits
+size-few minimum primary digits h = rw (lt-ltb digits (primary + minimum) h)
+
+pub size-many : (minimum primary digits : ℕ) → primary + minimum ≤ digits → primary ≡ groupSize minimum primary digits
+size-many minimum primary digits h = rw (le-ltb digits (primary + minimum) h)
+
 -- ---- the digits shown
 
 pub whole-is : (least most′ : ℕ) (d s : List ℕ) (n z k m : ℕ) → n ≡ length d - most′ → s ≡ take n d → z ≡ lead s → k ≡ length s - least → m ≡ min z k
@@ -74,10 +87,11 @@ fraction-is least most′ d s n z m en es ez em =
     rw (em, ez, e)
 
 -- the parts under the definition's names
-pub number-is : (symbol : Symbol → List ℕ) (p : Pattern) (d group point whole fraction : List ℕ) → group ≡ symbol Group → point ≡ symbol Decimal
-    → whole ≡ wholeDigits (p .least) (p .most) d → fraction ≡ fractionDigits (p .fraction) (p .most) d
-    → body zeroDigit point group (p .primary) (p .secondary) whole fraction ≡ numberText symbol p d
-number-is symbol p d group point whole fraction eg ep ew ef = rw (eg, ep, ew, ef)
+pub number-is : (symbol : Symbol → List ℕ) (p : Pattern) (d group point whole fraction : List ℕ) (size : ℕ) → group ≡ symbol Group → point ≡ symbol Decimal
+    → whole ≡ wholeDigits (p .least) (p .most) d → size ≡ groupSize (minimumIn symbol) (p .primary) (length whole)
+    → fraction ≡ fractionDigits (p .fraction) (p .most) d
+    → body zeroDigit point group size (p .secondary) whole fraction ≡ numberText symbol p d
+number-is symbol p d group point whole fraction size eg ep ew es ef = rw (eg, ep, es, ew, ef)
 
 pub part-is : (symbol : Symbol → List ℕ) (s : List ℕ) (p : Span) (x y : List ℕ) → x ≡ drop (p .start) s → y ≡ take (p .len) x → rendered symbol (items y) ≡ affixText symbol s p
 part-is symbol s p x y ex ey = rw (ey, ex)

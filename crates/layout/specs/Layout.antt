@@ -43,6 +43,11 @@ mark primary secondary left =
     if ltb left primary then false else
     eqb ((left - primary) % secondary) 0
 
+-- "Grouping then starts when the integer digits, added zeros included, number at least the primary group plus that value": the primary size among so many
+-- integer digits, 0 where there are fewer.
+abbrev pub groupSize : ℕ → ℕ → ℕ → ℕ
+groupSize minimum primary digits = if ltb digits (primary + minimum) then 0 else primary
+
 -- digits with group symbols among them
 abbrev pub grouped : ℕ → List ℕ → ℕ → ℕ → List ℕ → List ℕ
 grouped zero group primary secondary [] = []

@@ -1,8 +1,8 @@
--- Document 01, "The pattern": the text of a number under a pattern.
+-- Document 01, "The pattern", with document 02's minimum grouping digits: the text of a number under a pattern.
 use mathlib.Core.Bool.{Bool, true, false}
 use mathlib.Core.List.{List, [], _∷_, _++_}
 use Prim.Native.Nat.{ℕ}
-use lib.ListN.{take, drop}
+use lib.ListN.{length, getD, take, drop}
 use Rattle.decimal.specs.Choice.{if_then_else_}
 use Rattle.decimal.specs.Digits.{figures}
 use Rattle.pattern_token.specs.declared.Mark.{Mark}
@@ -11,7 +11,7 @@ use Rattle.pattern_token.specs.declared.Item.{Item}
 use Rattle.pattern_token.specs.declared.Item.the-variants.{Text, Symbol as SymbolItem, Place, Quote, Semicolon, Reserved}
 use Rattle.pattern_token.specs.Items.{items}
 use Rattle.symbols.specs.declared.Symbol.{Symbol}
-use Rattle.symbols.specs.declared.Symbol.the-variants.{Decimal, Group, Minus, Plus, Percent, Permille}
+use Rattle.symbols.specs.declared.Symbol.the-variants.{Decimal, Group, Minus, Plus, Percent, Permille, Minimum}
 use Rattle.pattern_reader.specs.declared.Span.{Span}
 use Rattle.pattern_reader.specs.declared.Negative.{Negative}
 use Rattle.pattern_reader.specs.declared.Negative.the-variants.{MinusSymbol, Own}
@@ -20,7 +20,7 @@ use Rattle.number.specs.declared.Number.{Number}
 use Rattle.nearest.specs.Nearest.{unitsOf}
 use Rattle.rounding.specs.Limits.{width}
 use Rattle.layout.specs.declared.Affixes.{Affixes}
-use Rattle.layout.specs.Layout.{wholeDigits, fractionDigits, zeroDigit, body}
+use Rattle.layout.specs.Layout.{wholeDigits, fractionDigits, zeroDigit, groupSize, body}
 
 -- ---- affixes
 
@@ -65,9 +65,18 @@ affixesOf p negative = if negative then negativeAffixes p (p .negative) else rec
 abbrev pub digitsOf : Pattern → Number → List ℕ
 digitsOf p n = figures width (unitsOf (p .step) (p .factor) (p .most) (n .i) (n .v .0) (n .f .0))
 
+-- the minimum grouping digits: the byte of kind 71's body
+abbrev pub minimumIn : (Symbol → List ℕ) → ℕ
+minimumIn symbol = getD (symbol Minimum) 0 0
+
+-- with groups whose primary size is this, where so many integer digits are shown
+abbrev pub numberWith : (Symbol → List ℕ) → (ℕ → ℕ) → Pattern → List ℕ → List ℕ
+numberWith symbol size p d =
+    let whole = wholeDigits (p .least) (p .most) d in
+    body zeroDigit (symbol Decimal) (symbol Group) (size (length whole)) (p .secondary) whole (fractionDigits (p .fraction) (p .most) d)
+
 abbrev pub numberText : (Symbol → List ℕ) → Pattern → List ℕ → List ℕ
-numberText symbol p d =
-    body zeroDigit (symbol Decimal) (symbol Group) (p .primary) (p .secondary) (wholeDigits (p .least) (p .most) d) (fractionDigits (p .fraction) (p .most) d)
+numberText symbol p d = numberWith symbol (groupSize (minimumIn symbol) (p .primary)) p d
 
 abbrev pub laidOut : (Symbol → List ℕ) → List ℕ → Pattern → Affixes → List ℕ → List ℕ
 laidOut symbol s p a d =

@@ -11,9 +11,9 @@ ghost use Rattle.decimal.specs.Choice.{if_then_else_};
 ghost use Rattle.area.specs.Area.{Wrote};
 ghost use Rattle.pattern_token.specs.Items.{items};
 ghost use Rattle.symbols.specs.Entries.{symbolIn, standardRecord};
-ghost use Rattle.layout.specs.Layout.{wholeDigits, fractionDigits, zeroDigit, spell, mark, grouped, pointed};
+ghost use Rattle.layout.specs.Layout.{wholeDigits, fractionDigits, zeroDigit, spell, mark, groupSize, grouped, pointed};
 ghost use Rattle.layout.specs.Plain.{isPlain, plain};
-ghost use Rattle.layout.specs.Text.{symbolOf, render, rendered, affixText, negativeAffixes, affixesOf, numberText, laidOut};
+ghost use Rattle.layout.specs.Text.{symbolOf, render, rendered, affixText, negativeAffixes, affixesOf, minimumIn, numberText, laidOut};
 use pattern_reader::Negative;
 use pattern_reader::Pattern;
 use pattern_reader::Span;
@@ -167,6 +167,23 @@ fn is_marked(primary: usize, secondary: usize, left: usize) -> bool
     (left - primary) % secondary == 0
 }
 
+// The primary size of groups among so many integer digits: 0 where they are too few to be grouped.
+fn primary_size(house: &[u8], primary: usize, digits: usize) -> usize
+    ensures { λ r. ⌜ r ≡ groupSize (minimumIn (symbolIn (now (house .entry)) standardRecord)) primary digits ⌝ }
+{
+    if primary == 0 {
+        return 0;
+    }
+    if digits < primary {
+        return 0;
+    }
+    let minimum = symbols::minimum(house, &symbols::STANDARD) as usize;
+    if digits - primary < minimum {
+        return 0;
+    }
+    primary
+}
+
 // How a digit is spelled: as the byte that it is, while digit zero is ASCII's.
 fn append_digit(out: &mut [u8], at: usize, b: u8) -> usize
     ensures { λ r. ⌜ Wrote (now (out .entry)) at (spell zeroDigit b) (now (out .exit)) r ⌝ }
@@ -227,7 +244,8 @@ fn append_number(out: &mut [u8], at: usize, house: &[u8], p: Pattern, d: &[u8]) 
 {
     let group = symbols::find(house, &symbols::STANDARD, Symbol::Group);
     let whole = whole_shown(p.least, p.most, d);
-    let k = append_digits(out, at, group, p.primary, p.secondary, whole);
+    let size = primary_size(house, p.primary, whole.len());
+    let k = append_digits(out, at, group, size, p.secondary, whole);
     let point = symbols::find(house, &symbols::STANDARD, Symbol::Decimal);
     append_fraction(out, k, point, fraction_shown(p.fraction, p.most, d))
 }

@@ -18,7 +18,7 @@ use Rattle.area.specs.Area.{Wrote, most}
 use Rattle.area.proofs.Pieces.{front}
 use Rattle.symbols.specs.declared.Judged.the-variants.{Good}
 use Rattle.symbols.specs.Entries.{readSymbols, symbolIn, standardRecord}
-use Rattle.symbols_grammar.proofs.Records.{found-fits}
+use Rattle.symbols_grammar.proofs.Records.{found-four}
 use Rattle.number.specs.declared.Number.{Number}
 use Rattle.number.specs.declared.Reading.the-variants.{Is as NumberIs}
 use Rattle.number.specs.Reading.{readNumber}
@@ -35,7 +35,7 @@ use Rattle.rounding.proofs.Arithmetic.{fits-within}
 use Rattle.layout.specs.Text.{affixesOf, digitsOf, textOf}
 use Rattle.print.specs.declared.Printed.the-variants.{Text, Refused}
 use Rattle.print.specs.Outcome.{text, answerOf, areaOf}
-use Rattle.print.proofs.Sizes.{body-four, text-size}
+use Rattle.print.proofs.Sizes.{text-size}
 
 read-short : (s : List ℕ) (p : Pattern) → readPattern s ≡ PatternIs p → length s ≤ maxBytes
 read-short s p e = tested (ltb maxBytes (length s)) (λ k. not-read _ p (rw k at e)) (λ k. ltb-false maxBytes (length s) k)
@@ -64,7 +64,7 @@ ready-size house s p n eh ep =
     let d = digitsOf p n in
     omega (
       arith,
-      text-size (symbolIn house standardRecord) s p (affixesOf p (n .negative)) d (λ y. body-four (symbolIn house standardRecord y) (found-fits house y eh)),
+      text-size (symbolIn house standardRecord) s p (affixesOf p (n .negative)) d (λ y. found-four house y eh),
       read-short s p ep,
       length-figures width (unitsOf (p .step) (p .factor) (p .most) (n .i) (n .v .0) (n .f .0)),
     )

@@ -1,56 +1,23 @@
 -- How long a text is at most: an item of an affix prints at most a symbol, and so does the place behind a digit.
-use mathlib.Core.Path.{_≡_}
 use mathlib.Core.Bool.{Bool, true, false}
 use mathlib.Core.List.{List, [], _∷_, _++_}
 use Prim.Native.Nat.{ℕ, zero, suc, _+_, _*_, _-_, _≤_, min, max}
 use native.Mathlib.Omega.{arith}
-use borrow.Author.Tests.{eqb-true}
-use lib.Dec.{ltb, eqb}
-use lib.ListN.{length, getD, take, drop, length-append, length-take, length-drop}
+use lib.Dec.{ltb}
+use lib.ListN.{length, take, drop, length-append, length-take, length-drop}
 use Rattle.decimal.specs.Choice.{if_then_else_}
 use Rattle.decimal.specs.Digits.{lead, trim}
-use Rattle.decimal.proofs.Choices.{tested, choice, not-both}
-use Rattle.utf8.specs.Utf8.{charBytes, restFits, charLen, isChar}
 use Rattle.pattern_token.specs.declared.Item.{Item}
 use Rattle.pattern_token.specs.declared.Item.the-variants.{Text, Symbol as SymbolItem, Place, Quote, Semicolon, Reserved}
 use Rattle.pattern_token.specs.Items.{tokenAt, quotedAfter, isNumber, itemsFrom, items}
 use Rattle.symbols.specs.declared.Symbol.{Symbol}
 use Rattle.symbols.specs.declared.Symbol.the-variants.{Decimal, Group, Minus}
-use Rattle.symbols.specs.Entries.{bodyFits}
 use Rattle.pattern_reader.specs.declared.Span.{Span}
 use Rattle.pattern_reader.specs.declared.Pattern.{Pattern}
 use Rattle.layout.specs.declared.Affixes.{Affixes}
-use Rattle.layout.specs.Layout.{wholeDigits, fractionDigits, zeroDigit, spell, mark, grouped}
+use Rattle.layout.specs.Layout.{wholeDigits, fractionDigits, zeroDigit, spell, mark, groupSize, grouped}
 use Rattle.layout.proofs.Spelling.{spell-four}
-use Rattle.layout.specs.Text.{symbolOf, render, rendered, partOf, affixText, laidOut}
-
--- ---- a code point has at most four bytes
-
-bytes-four : (b : ℕ) → charBytes b ≤ 4
-bytes-four b =
-    choice (λ (n : ℕ). n ≤ 4) (ltb b 0x80) (λ k. omega arith)
-    (λ k. choice (λ (n : ℕ). n ≤ 4) (ltb b 0xC2) (λ l. omega arith)
-    (λ l. choice (λ (n : ℕ). n ≤ 4) (ltb b 0xE0) (λ m. omega arith)
-    (λ m. choice (λ (n : ℕ). n ≤ 4) (ltb b 0xF0) (λ o. omega arith)
-    (λ o. choice (λ (n : ℕ). n ≤ 4) (ltb b 0xF5) (λ q. omega arith) (λ q. omega arith)))))
-
-char-four : (s : List ℕ) → charLen s ≤ 4
-char-four s =
-    let n = charBytes (getD s 0 0) in
-    let h = bytes-four (getD s 0 0) in
-    choice (λ (m : ℕ). m ≤ 4) (ltb (length s) n) (λ k. omega arith)
-    (λ k. choice (λ (m : ℕ). m ≤ 4) (ltb n 2) (λ l. h)
-    (λ l. choice (λ (m : ℕ). m ≤ 4) (restFits (getD s 0 0) (take (n - 1) (drop 1 s))) (λ o. h) (λ o. omega arith)))
-
-is-four : (s : List ℕ) → isChar s ≡ true → length s ≤ 4
-is-four s e =
-    tested (eqb (length s) 0) (λ k. not-both e (rw k))
-    (λ k.
-    let f : eqb (charLen s) (length s) ≡ true = rw k at e in
-    omega (arith, eqb-true (charLen s) (length s) f, char-four s))
-
-pub body-four : (s : List ℕ) → bodyFits s ≡ true → length s ≤ 4
-body-four s e = tested (isChar s) (λ k. is-four s k) (λ k. not-both e (rw k))
+use Rattle.layout.specs.Text.{symbolOf, render, rendered, partOf, affixText, minimumIn, laidOut}
 
 -- ---- affixes
 
@@ -116,7 +83,8 @@ text-size symbol s p a d four =
     let m = if a .minus then symbol Minus else [] in
     let w = wholeDigits (p .least) (p .most) d in
     let f = fractionDigits (p .fraction) (p .most) d in
-    let i = grouped zeroDigit (symbol Group) (p .primary) (p .secondary) w in
+    let size = groupSize (minimumIn symbol) (p .primary) (length w) in
+    let i = grouped zeroDigit (symbol Group) size (p .secondary) w in
     let point = if ltb 0 (length f) then symbol Decimal else [] in
     let g = grouped zeroDigit [] 0 0 f in
     let x = affixText symbol s (a .prefix) in
@@ -133,7 +101,7 @@ text-size symbol s p a d four =
       four Minus,
       if-size (ltb 0 (length f)) (symbol Decimal),
       four Decimal,
-      grouped-size zeroDigit (symbol Group) (p .primary) (p .secondary) w (four Group),
+      grouped-size zeroDigit (symbol Group) size (p .secondary) w (four Group),
       grouped-size zeroDigit [] 0 0 f (omega arith),
       whole-size (p .least) (p .most) d,
       fraction-size (p .fraction) (p .most) d,

@@ -4,3 +4,4 @@ pub mod Cuts
 pub mod Affixes
 pub mod Texts
 pub mod Theorems
+pub mod Base

@@ -28,9 +28,9 @@ use Rattle.rounding.specs.Limits.{width}
 use Rattle.nearest.proofs.Nearest.{units-permitted, permitted-only}
 use Rattle.rounding.proofs.Arithmetic.{within-fits, units-room, value-room}
 use Rattle.layout.specs.declared.Affixes.{Affixes}
-use Rattle.layout.specs.Layout.{wholeDigits, fractionDigits, zeroDigit, spell, spelled, mark, grouped}
-use Rattle.layout.specs.Text.{affixText, negativeAffixes, affixesOf, digitsOf, textOf}
-use Rattle.print_grammar.specs.Digits.{ShownDigits}
+use Rattle.layout.specs.Layout.{wholeDigits, fractionDigits, zeroDigit, spell, spelled, mark, groupSize, grouped}
+use Rattle.layout.specs.Text.{affixText, negativeAffixes, affixesOf, minimumIn, digitsOf, textOf}
+use Rattle.print_grammar.specs.Digits.{ShownDigits, SymbolStands}
 use Rattle.print_grammar.proofs.Shown.{digits-shown, shown-only}
 use Rattle.print_grammar.proofs.Groups.{mark-sound, mark-complete, grouped-none}
 use Rattle.print_grammar.specs.Text.{AffixesText, Around, positive, minus, own, Grouped, none, plain, ended, pointBefore, PrintedText}
@@ -41,22 +41,29 @@ use Rattle.print_grammar.proofs.Affixes.{affix-text}
 
 -- ---- groups
 
-module _ (zero : ℕ) (group : List ℕ) (p q : ℕ) (some : 0 < p → 0 < q) where
-  groups-are : {d t : List ℕ} → Grouped zero group p q d t → t ≡ grouped zero group p q d
+module _ (zero : ℕ) (group : List ℕ) (m p q n : ℕ) (some : 0 < p → 0 < q) where
+  abbrev Stands : ℕ → Type 0
+  Stands left = SymbolStands m p q n left
+
+  abbrev size : ℕ
+  size = groupSize m p n
+
+  groups-are : {d t : List ℕ} → Grouped zero group Stands d t → t ≡ grouped zero group size q d
   groups-are none = refl
   groups-are (plain {d} {ds} {t} f g) =
-      tested (mark p q (length ds)) (λ k. absurd (f (mark-sound p q (length ds) k))) (λ k. rw k (ap (λ (l : List ℕ). spell zero d ++ l) (groups-are g)))
+      tested (mark size q (length ds)) (λ k. absurd (f (mark-sound m p q n (length ds) k)))
+      (λ k. rw k (ap (λ (l : List ℕ). spell zero d ++ l) (groups-are g)))
   groups-are (ended {d} {ds} {t} e g) =
-      rw (mark-complete p q (length ds) (some (e .some)) e) (ap (λ (l : List ℕ). spell zero d ++ (group ++ l)) (groups-are g))
+      rw (mark-complete m p q n (length ds) (some (e .ends .some)) e) (ap (λ (l : List ℕ). spell zero d ++ (group ++ l)) (groups-are g))
 
-  groups-made : (d : List ℕ) → Grouped zero group p q d (grouped zero group p q d)
+  groups-made : (d : List ℕ) → Grouped zero group Stands d (grouped zero group size q d)
   groups-made [] = none
   groups-made (b ∷ d) =
-      tested (mark p q (length d)) (λ k. rw k (ended (mark-sound p q (length d) k) (groups-made d)))
-      (λ k. rw k (plain (λ e. not-both (mark-complete p q (length d) (some (e .some)) e) k) (groups-made d)))
+      tested (mark size q (length d)) (λ k. rw k (ended (mark-sound m p q n (length d) k) (groups-made d)))
+      (λ k. rw k (plain (λ e. not-both (mark-complete m p q n (length d) (some (e .ends .some)) e) k) (groups-made d)))
 
-  pub grouped-text : (d t : List ℕ) → Grouped zero group p q d t ↔ (t ≡ grouped zero group p q d)
-  grouped-text d t = (groups-are, λ e. subst (Grouped zero group p q d) (sym e) (groups-made d))
+  pub grouped-text : (d t : List ℕ) → Grouped zero group Stands d t ↔ (t ≡ grouped zero group size q d)
+  grouped-text d t = (groups-are, λ e. subst (Grouped zero group Stands d) (sym e) (groups-made d))
 
 -- ---- what stands around the digits
 
@@ -126,7 +133,7 @@ module _ (s t : List ℕ) (p : Pattern) (n : Number) (ep : readPattern s ≡ Pat
         let a = affixesOf p (n .negative) in
         let w = wholeDigits (p .least) (p .most) (digitsOf p n) in
         let f = fractionDigits (p .fraction) (p .most) (digitsOf p n) in
-        let i = grouped zeroDigit (symbol Group) (p .primary) (p .secondary) w in
+        let i = grouped zeroDigit (symbol Group) (groupSize (minimumIn symbol) (p .primary) (length w)) (p .secondary) w in
         record {
           units = unitsIn p n;
           permitted = units-permitted (p .step) (p .factor) (p .most) (n .i) (n .v .0) (n .f .0) (b .step-least);
@@ -134,7 +141,7 @@ module _ (s t : List ℕ) (p : Pattern) (n : Number) (ep : readPattern s ≡ Pat
           fraction = f;
           shown = digits-are-shown;
           integer = i;
-          is-grouped = grouped-text zeroDigit (symbol Group) (p .primary) (p .secondary) (b .secondary-least) w i .1 refl;
+          is-grouped = grouped-text zeroDigit (symbol Group) (minimumIn symbol) (p .primary) (p .secondary) (length w) (b .secondary-least) w i .1 refl;
           sign = signOf symbol s a;
           prefix = affixText symbol s (a .prefix);
           suffix = affixText symbol s (a .suffix);
@@ -148,14 +155,15 @@ module _ (s t : List ℕ) (p : Pattern) (n : Number) (ep : readPattern s ≡ Pat
         let a = affixesOf p (n .negative) in
         let w = wholeDigits (p .least) (p .most) (digitsOf p n) in
         let f = fractionDigits (p .fraction) (p .most) (digitsOf p n) in
-        let i = grouped zeroDigit (symbol Group) (p .primary) (p .secondary) w in
+        let i = grouped zeroDigit (symbol Group) (groupSize (minimumIn symbol) (p .primary) (length w)) (p .secondary) w in
         let u : x .units ≡ unitsIn p n =
         permitted-only (p .step) (p .factor) (p .most) (n .i) (n .v .0) (n .f .0) (x .units) (unitsIn p n) (b .step-least)
         (x .permitted) (units-permitted (p .step) (p .factor) (p .most) (n .i) (n .v .0) (n .f .0) (b .step-least)) in
         let d = shown-only (rw u at (x .shown)) digits-are-shown in
         let g : x .integer ≡ i =
-        grouped-text zeroDigit (symbol Group) (p .primary) (p .secondary) (b .secondary-least) (x .whole) (x .integer) .0 (x .is-grouped)
-        ∙ ap (grouped zeroDigit (symbol Group) (p .primary) (p .secondary)) (d .0) in
+        grouped-text zeroDigit (symbol Group) (minimumIn symbol) (p .primary) (p .secondary) (length (x .whole)) (b .secondary-least) (x .whole) (x .integer) .0
+        (x .is-grouped)
+        ∙ ap (λ (z : List ℕ). grouped zeroDigit (symbol Group) (groupSize (minimumIn symbol) (p .primary) (length z)) (p .secondary) z) (d .0) in
         let r = around-are symbol s (pattern-clean s p ep) (x .around) in
         x .is-text
         ∙ (rw (r .0, r .1, r .2, g, d .1)

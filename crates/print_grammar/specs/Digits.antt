@@ -20,8 +20,14 @@ pub record ShownDigits (least fraction most units : ℕ) (whole shown : List ℕ
   -- beyond the least fraction digits none is a trailing zero
   pub fraction-spare : fraction < length shown → value shown % 10 ≡ 0 → ⊥
 
--- where a group symbol stands: with the digits of the primary group to come, or with those and some whole secondary groups
+-- where a group ends: with the digits of the primary group to come, or with those and some whole secondary groups
 pub record GroupEnds (primary secondary left : ℕ) : Type 0 where
   pub some : 0 < primary
   pub groups : ℕ
   pub to-come : left ≡ primary + groups * secondary
+
+-- Where a group symbol stands among so many integer digits, `left` of them to come: where a group ends, once the digits "number at least the primary
+-- group plus" the minimum.
+pub record SymbolStands (minimum primary secondary digits left : ℕ) : Type 0 where
+  pub enough : primary + minimum ≤ digits
+  pub ends : GroupEnds primary secondary left

@@ -2,3 +2,4 @@ pub mod Digits
 pub mod Claims
 pub mod Text
 pub mod Clean
+pub mod Base

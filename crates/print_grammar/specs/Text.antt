@@ -1,4 +1,4 @@
--- Document 01, "The pattern": what a printed text is, as one relation between the pattern's bytes, what was read of them, the number, and the text.
+-- Document 01, "The pattern", with document 02's minimum grouping digits: what a printed text is, as one relation between the pattern's bytes, what was read of them, the number, and the text.
 use mathlib.Core.Path.{_≡_}
 use mathlib.Core.Bool.{Bool, true, false, not}
 use mathlib.Core.List.{List, [], _∷_, _++_}
@@ -18,7 +18,8 @@ use Rattle.pattern_grammar.specs.Grammar.{isBare}
 use Rattle.pattern_grammar.specs.Texts.{textAt}
 use Rattle.nearest.specs.Nearest.{Permitted}
 use Rattle.layout.specs.Layout.{zeroDigit, spell, spelled}
-use Rattle.print_grammar.specs.Digits.{ShownDigits, GroupEnds}
+use Rattle.layout.specs.Text.{minimumIn}
+use Rattle.print_grammar.specs.Digits.{ShownDigits, SymbolStands}
 
 -- ---- affixes
 
@@ -59,14 +60,11 @@ pub data Around (symbol : Symbol → List ℕ) (s : List ℕ) (p : Pattern) : Bo
 
 -- ---- digits
 
--- integer digits, spelled by digit zero, with group symbols among them: one behind a digit exactly where a group ends, that is, where as many digits are to come as the primary
--- group has, or that many and some whole secondary groups
-pub data Grouped (zero : ℕ) (group : List ℕ) (primary secondary : ℕ) : List ℕ → List ℕ → Type 0 where
-  none : Grouped zero group primary secondary [] []
-  plain : {d : ℕ} {ds t : List ℕ} → (GroupEnds primary secondary (length ds) → ⊥) → Grouped zero group primary secondary ds t
-      → Grouped zero group primary secondary (d ∷ ds) (spell zero d ++ t)
-  ended : {d : ℕ} {ds t : List ℕ} → GroupEnds primary secondary (length ds) → Grouped zero group primary secondary ds t
-      → Grouped zero group primary secondary (d ∷ ds) (spell zero d ++ (group ++ t))
+-- integer digits, spelled by digit zero, with group symbols among them: one behind a digit exactly where it stands with so many digits to come
+pub data Grouped (zero : ℕ) (group : List ℕ) (Stands : ℕ → Type 0) : List ℕ → List ℕ → Type 0 where
+  none : Grouped zero group Stands [] []
+  plain : {d : ℕ} {ds t : List ℕ} → (Stands (length ds) → ⊥) → Grouped zero group Stands ds t → Grouped zero group Stands (d ∷ ds) (spell zero d ++ t)
+  ended : {d : ℕ} {ds t : List ℕ} → Stands (length ds) → Grouped zero group Stands ds t → Grouped zero group Stands (d ∷ ds) (spell zero d ++ (group ++ t))
 
 -- "The decimal symbol prints when a fraction digit does."
 abbrev pub pointBefore : List ℕ → List ℕ → List ℕ
@@ -84,7 +82,7 @@ pub record PrintedText (symbol : Symbol → List ℕ) (s : List ℕ) (p : Patter
   pub shown : ShownDigits (p .least) (p .fraction) (p .most) units whole fraction
   -- the integer digits in groups
   pub integer : List ℕ
-  pub is-grouped : Grouped zeroDigit (symbol Group) (p .primary) (p .secondary) whole integer
+  pub is-grouped : Grouped zeroDigit (symbol Group) (SymbolStands (minimumIn symbol) (p .primary) (p .secondary) (length whole)) whole integer
   -- what stands around them
   pub sign : List ℕ
   pub prefix : List ℕ

@@ -11,8 +11,13 @@ use lib.ListN.{length, take, drop, take-append-drop, length-append, length-drop}
 use lib.Seq.{take-at, drop-at, length-take-le}
 use Rattle.decimal.proofs.Choices.{tested, not-both}
 use Rattle.records.specs.Entries.{Entry, bodyLen, entries, broken}
-use Rattle.records.specs.Spelled.{Fixed, All, none, more, textOf, Spells}
+use Rattle.records.specs.Spelled.{Fixed, All, none, more, textOf, Spells, Among, here, later}
 use Rattle.records.proofs.Walks.{entries-skip, broken-skip}
+
+-- what holds of all entries holds of each
+pub all-among : {P : Entry → Type 0} {e : Entry} {es : List Entry} → All P es → Among e es → P e
+all-among (more p a) here = p
+all-among (more p a) (later m) = all-among a m
 
 -- two kinds of entries that are the same spell the same records
 all-as : {P Q : Entry → Type 0} → ((e : Entry) → P e → Q e) → {es : List Entry} → All P es → All Q es

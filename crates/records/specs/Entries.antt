@@ -46,6 +46,10 @@ brokenFrom lengths zero (b ∷ s) =
 abbrev pub broken : (ℕ → ℕ) → List ℕ → Bool
 broken lengths s = brokenFrom lengths 0 s
 
+-- the same kinds but for k, which is unknown
+abbrev pub without : ℕ → (ℕ → ℕ) → ℕ → ℕ
+without k lengths b = if eqb b k then 0 else lengths b
+
 -- ---- the entries of a name
 
 abbrev pub holds : (ℕ → ℕ) → ℕ → List Entry → Bool

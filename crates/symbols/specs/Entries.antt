@@ -2,6 +2,7 @@
 use mathlib.Core.Bool.{Bool, not, false}
 use mathlib.Core.List.{List, [], _∷_}
 use Prim.Native.Nat.{ℕ}
+use lib.Dec.{ltb, eqb}
 use lib.ListN.{getD}
 use Rattle.decimal.specs.Choice.{if_then_else_}
 use Rattle.decimal.specs.Digits.{isDigit}
@@ -12,6 +13,7 @@ use Rattle.answer.specs.declared.Refusal.the-variants.{Symbols as OfSymbols}
 use Rattle.records.specs.Entries as records
 use Rattle.records.specs.Entries.{Entry}
 use Rattle.symbols.specs.declared.Symbol.{Symbol}
+use Rattle.symbols.specs.declared.Symbol.the-variants.{Minimum}
 use Rattle.symbols.specs.declared.Judged.{Judged}
 use Rattle.symbols.specs.declared.Judged.the-variants.{Good, Refused}
 use Rattle.symbols.specs.Kinds.{upperOf, nameOf, lengthOf}
@@ -42,8 +44,16 @@ bodyIn y es = records.bodyIn nameOf (upperOf y) es
 abbrev pub bodyFits : List ℕ → Bool
 bodyFits s = if isChar s then not (isDigit (getD s 0 0)) else false
 
+-- "whose one-byte body is 01 to 04"
+abbrev pub isMinimum : ℕ → Bool
+isMinimum n = if ltb n 1 then false else ltb n 5
+
+-- the body of the symbol with this upper half
+abbrev pub fitsAs : ℕ → List ℕ → Bool
+fitsAs upper s = if eqb upper (upperOf Minimum) then isMinimum (getD s 0 0) else bodyFits s
+
 abbrev pub entryFits : Entry → Bool
-entryFits e = bodyFits (e .body)
+entryFits e = fitsAs (nameOf (e .kind)) (e .body)
 
 abbrev pub bodiesFit : List Entry → Bool
 bodiesFit es = records.every entryFits es
@@ -67,6 +77,6 @@ readSymbols s =
 abbrev pub symbolIn : List ℕ → List ℕ → Symbol → List ℕ
 symbolIn house standard y = if holds y (entries house) then bodyIn y (entries house) else bodyIn y (entries standard)
 
--- "Standard record: 11 2E 21 2C 31 2D 41 2B 51 25 63 E2 80 B0."
+-- "Standard record: 11 2E 21 2C 31 2D 41 2B 51 25 63 E2 80 B0."; and of kind 71: "Without the record it is 1."
 abbrev pub standardRecord : List ℕ
-standardRecord = 0x11 ∷ 0x2E ∷ 0x21 ∷ 0x2C ∷ 0x31 ∷ 0x2D ∷ 0x41 ∷ 0x2B ∷ 0x51 ∷ 0x25 ∷ 0x63 ∷ 0xE2 ∷ 0x80 ∷ 0xB0 ∷ []
+standardRecord = 0x11 ∷ 0x2E ∷ 0x21 ∷ 0x2C ∷ 0x31 ∷ 0x2D ∷ 0x41 ∷ 0x2B ∷ 0x51 ∷ 0x25 ∷ 0x63 ∷ 0xE2 ∷ 0x80 ∷ 0xB0 ∷ 0x71 ∷ 0x01 ∷ []

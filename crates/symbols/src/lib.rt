@@ -1,6 +1,6 @@
 // The symbol record: refusals 40 and 41, and the body of a symbol.
 //
-// The entries are read_symbols and find. specs/Kinds.antt says what a kind byte means,
+// The entries are read_symbols, find and minimum. specs/Kinds.antt says what a kind byte means,
 // specs/Entries.antt what a record of such kinds holds, by the definitions of crate records. A new
 // kind is a line in the enum, in kind_of, in upper and in their definitions.
 ghost use mathlib.Core.Path.{_≡_};
@@ -8,7 +8,7 @@ ghost use Prim.Native.Nat.{_<_};
 ghost use lib.ListN.{length, getD};
 ghost use Rattle.records.specs.Entries.{Stands, Located};
 ghost use Rattle.symbols.specs.Kinds.{upperOf, kindOf, nameOf, lengthOf};
-ghost use Rattle.symbols.specs.Entries.{entries, broken, twice, bodyFits, bodiesFit, readSymbols, symbolIn};
+ghost use Rattle.symbols.specs.Entries.{entries, broken, twice, bodyFits, isMinimum, fitsAs, bodiesFit, readSymbols, symbolIn};
 use answer::Refusal;
 use answer::SymbolRow;
 use decimal::cut;
@@ -16,6 +16,7 @@ use decimal::scan;
 use records::Head;
 use records::Spot;
 
+// The last is the minimum grouping digits: its body is no text but a number.
 pub enum Symbol {
     Decimal,
     Group,
@@ -23,6 +24,7 @@ pub enum Symbol {
     Plus,
     Percent,
     Permille,
+    Minimum,
 }
 
 // What a kind byte means: a symbol and its body's length.
@@ -36,7 +38,7 @@ pub enum Judged {
     Refused(Refusal),
 }
 
-pub const STANDARD: [u8; 14] = [
+pub const STANDARD: [u8; 16] = [
     0x11,
     0x2E,
     0x21,
@@ -51,6 +53,8 @@ pub const STANDARD: [u8; 14] = [
     0xE2,
     0x80,
     0xB0,
+    0x71,
+    0x01,
 ];
 
 fn refuse(row: SymbolRow) -> Judged
@@ -69,6 +73,7 @@ fn kind_of(b: u8) -> Kind
         0x41..=0x44 => Kind::Known(Symbol::Plus, (b % 16) as usize),
         0x51..=0x54 => Kind::Known(Symbol::Percent, (b % 16) as usize),
         0x61..=0x64 => Kind::Known(Symbol::Permille, (b % 16) as usize),
+        0x71 => Kind::Known(Symbol::Minimum, 1),
         _ => Kind::Unknown,
     }
 }
@@ -83,6 +88,7 @@ fn upper(y: Symbol) -> u8
         Symbol::Plus => 4,
         Symbol::Percent => 5,
         Symbol::Permille => 6,
+        Symbol::Minimum => 7,
     }
 }
 
@@ -136,7 +142,7 @@ fn locate(s: &[u8], x: u8) -> Spot
     records::nowhere()
 }
 
-// Whether s has a symbol twice. No more than six entries are passed before that is known.
+// Whether s has a symbol twice. No more than seven entries are passed before that is known.
 fn is_twice(s: &[u8]) -> bool
     ensures { λ r. ⌜ r ≡ twice (entries (now (s .entry))) ⌝ }
 {
@@ -175,6 +181,26 @@ fn body_fits(s: &[u8]) -> bool
     false
 }
 
+// Whether b is a value of the minimum grouping digits.
+fn is_minimum(b: u8) -> bool
+    ensures { λ r. ⌜ r ≡ isMinimum b ⌝ }
+{
+    if b < 1 {
+        return false;
+    }
+    b < 5
+}
+
+// Whether s is a body of the symbol with this upper half.
+fn fits_as(upper: u8, s: &[u8]) -> bool
+    ensures { λ r. ⌜ r ≡ fitsAs upper (now (s .entry)) ⌝ }
+{
+    if upper == 7 {
+        return is_minimum(first(s));
+    }
+    body_fits(s)
+}
+
 fn do_bodies_fit(s: &[u8]) -> bool
     ensures { λ r. ⌜ r ≡ bodiesFit (entries (now (s .entry))) ⌝ }
 {
@@ -184,7 +210,7 @@ fn do_bodies_fit(s: &[u8]) -> bool
         if h.len == 0 {
             return true;
         }
-        if body_fits(cut::upto(cut::after(s, i + 1), h.len)) {
+        if fits_as(h.name, cut::upto(cut::after(s, i + 1), h.len)) {
             i += 1 + h.len;
         } else {
             return false;
@@ -223,4 +249,11 @@ pub fn find<'a>(house: &'a [u8], standard: &'a [u8], y: Symbol) -> &'a [u8]
     let b = d.start;
     let f = d.start + d.len;
     &standard[b..f]
+}
+
+// The minimum grouping digits: the byte of its body.
+pub fn minimum<'a>(house: &'a [u8], standard: &'a [u8]) -> u8
+    ensures { λ r. ⌜ r ≡ getD (symbolIn (now (house .entry)) (now (standard .entry)) (Symbol.Minimum)) 0 0 ⌝ }
+{
+    first(find(house, standard, Symbol::Minimum))
 }

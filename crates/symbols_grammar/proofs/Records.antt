@@ -5,40 +5,51 @@ use mathlib.Core.List.{List}
 use mathlib.Core.Logic.{_↔_}
 use Prim.Native.Nat.{ℕ, _+_, _*_, _/_, _%_, _≤_}
 use native.Mathlib.Omega.{arith}
-use lib.ListN.{length}
+use lib.ListN.{length, getD}
 use Rattle.decimal.proofs.Choices.{tested, never, not-both}
 use Rattle.answer.specs.declared.SymbolRow.the-variants.{NotASymbolRecord}
 use Rattle.records.specs.Entries.{Entry}
 use Rattle.records.specs.Spelled.{Fixed, Among}
 use Rattle.records.proofs.Told.{holds-told, twice-told, once-told, body-found}
-use Rattle.records.proofs.Spellings.{spells-as, spells-read as fixed-read, read-spells as read-fixed}
+use Rattle.records.proofs.Spellings.{all-among, spells-as, spells-read as fixed-read, read-spells as read-fixed}
 use Rattle.symbols.specs.declared.Symbol.{Symbol}
-use Rattle.symbols.specs.declared.Symbol.the-variants.{Decimal, Group, Minus, Plus, Percent, Permille}
+use Rattle.symbols.specs.declared.Symbol.the-variants.{Decimal, Group, Minus, Plus, Percent, Permille, Minimum}
 use Rattle.symbols.specs.declared.Kind.{Kind}
 use Rattle.symbols.specs.declared.Kind.the-variants.{Unknown, Known}
 use Rattle.symbols.specs.declared.Judged.{Judged}
 use Rattle.symbols.specs.declared.Judged.the-variants.{Good}
-use Rattle.symbols.specs.Kinds.{upperOf, kindWith, kindOf, nameOf, lengthIn, lengthOf}
+use Rattle.symbols.specs.Kinds.{upperOf, longest, kindWith, kindOf, nameOf, lengthIn, lengthOf}
 use Rattle.symbols.specs.Entries.{entries, broken, holds, bodyIn, twice, bodyFits, bodiesFit, refuse, readSymbols, symbolIn, standardRecord}
-use Rattle.symbols.proofs.KindLaws.{kind-at, known-byte}
-use Rattle.symbols_grammar.specs.Record.{IsEntry, Spells, Of, Twice, IsBody, Verdict, no-record, symbol-twice, bad-body, good, SymbolIs, own, standard}
+use Rattle.symbols.proofs.KindLaws.{kind-at, known-byte, longest-four}
+use Rattle.symbols_grammar.specs.Record.{IsEntry, Spells, Of, Twice, IsBody, IsMinimum, HasBody, text, minimum, Verdict, no-record, symbol-twice, bad-body, good, SymbolIs, own, standard}
 use Rattle.symbols_grammar.proofs.Told.{body-told, bodies-told, unfit-entry}
 
-kind-with : (y : Symbol) (n : ℕ) → kindWith (upperOf y) n ≡ Known y n
-kind-with Decimal n = refl
-kind-with Group n = refl
-kind-with Minus n = refl
-kind-with Plus n = refl
-kind-with Percent n = refl
-kind-with Permille n = refl
+kind-with : (y : Symbol) (n : ℕ) → 1 ≤ n → n ≤ longest y → kindWith (upperOf y) n ≡ Known y n
+kind-with Decimal n h k = refl
+kind-with Group n h k = refl
+kind-with Minus n h k = refl
+kind-with Plus n h k = refl
+kind-with Percent n h k = refl
+kind-with Permille n h k = refl
+kind-with Minimum n h k = let e : n ≡ 1 = omega arith in rw e
+
+longest-one : (y : Symbol) → 1 ≤ longest y
+longest-one Decimal = omega arith
+longest-one Group = omega arith
+longest-one Minus = omega arith
+longest-one Plus = omega arith
+longest-one Percent = omega arith
+longest-one Permille = omega arith
+longest-one Minimum = omega arith
 
 -- ---- entries: the kind's halves are its symbol's and the body's length
 
-kind-spelled : (y : Symbol) (n : ℕ) → 1 ≤ n → n ≤ 4 → kindOf (16 * upperOf y + n) ≡ Known y n
+kind-spelled : (y : Symbol) (n : ℕ) → 1 ≤ n → n ≤ longest y → kindOf (16 * upperOf y + n) ≡ Known y n
 kind-spelled y n h k =
     let b = 16 * upperOf y + n in
+    let m : n ≤ 4 = omega (arith, longest-four y) in
     let l : b % 16 ≡ n = omega arith in
-    kind-at b (upperOf y) (omega arith) (omega arith) (omega arith) ∙ (ap (kindWith (upperOf y)) l ∙ kind-with y n)
+    kind-at b (upperOf y) (omega arith) (omega arith) (omega arith) ∙ (ap (kindWith (upperOf y)) l ∙ kind-with y n h k)
 
 entry-fixed : (e : Entry) → IsEntry e → Fixed lengthOf e
 entry-fixed e w =
@@ -60,12 +71,13 @@ pub of-told : (e : Entry) (w : IsEntry e) (y : Symbol) → Of y e ↔ (w .symbol
 of-told e w y = (λ o. symbol-of-upper (w .symbol) y (sym upper ∙ o), λ q. upper ∙ ap upperOf q)
   where
     upper : e .kind / 16 ≡ upperOf (w .symbol)
-    upper = omega (arith, w .halves, w .least, w .most)
+    upper = omega (arith, w .halves, w .least, w .most, longest-four (w .symbol))
 
     symbol-of-upper : (x z : Symbol) → upperOf x ≡ upperOf z → x ≡ z
-    symbol-of-upper x z q = of-kinds (sym (kind-with x 0) ∙ (ap (λ (u : ℕ). kindWith u 0) q ∙ kind-with z 0))
+    symbol-of-upper x z q =
+        of-kinds (sym (kind-with x 1 (omega arith) (longest-one x)) ∙ (ap (λ (u : ℕ). kindWith u 1) q ∙ kind-with z 1 (omega arith) (longest-one z)))
       where
-        of-kinds : Known x 0 ≡ Known z 0 → x ≡ z
+        of-kinds : Known x 1 ≡ Known z 1 → x ≡ z
         of-kinds k = cc
 
 -- ---- what is spelled is read, and what is read is spelled
@@ -116,7 +128,7 @@ verdict-found s = tested (broken s) (λ k. made (no-record (λ es w. not-both k 
 -- the entries of a good record
 record Passed (es : List Entry) : Type 0 where
   apart : Twice es → ⊥
-  bodies : (e : Entry) → Among e es → IsBody (e .body)
+  bodies : (e : Entry) → Among e es → HasBody e
 
 passed : (s : List ℕ) (es : List Entry) → readSymbols s ≡ Good → Spells s es → Passed es
 passed s es g w = by (verdict-found s) g
@@ -148,6 +160,7 @@ standard-holds Minus = refl
 standard-holds Plus = refl
 standard-holds Percent = refl
 standard-holds Permille = refl
+standard-holds Minimum = refl
 
 module _ (house : List ℕ) (g : readSymbols house ≡ Good) (y : Symbol) where
   symbol-given : {b : List ℕ} → SymbolIs house y b → symbolIn house standardRecord y ≡ b
@@ -181,10 +194,57 @@ module _ (house : List ℕ) (g : readSymbols house ≡ Good) (y : Symbol) where
 pub symbol-is : (house : List ℕ) → readSymbols house ≡ Good → (y : Symbol) (b : List ℕ) → SymbolIs house y b ↔ (symbolIn house standardRecord y ≡ b)
 symbol-is house g y b = (symbol-given house g y, λ e. subst (SymbolIs house y) e (symbol-found house g y))
 
--- which is one code point of UTF-8 that is no ASCII digit
-pub found-fits : (house : List ℕ) (y : Symbol) → readSymbols house ≡ Good → bodyFits (symbolIn house standardRecord y) ≡ true
-found-fits house y g = body-told (symbolIn house standardRecord y) .1 (by (symbol-found house g y))
+-- It is the body of an entry of the symbol in a good record.
+record Found (y : Symbol) (b : List ℕ) : Type 0 where
+  entry : Entry
+  its : b ≡ entry .body
+  of : Of y entry
+  is-entry : IsEntry entry
+  has : HasBody entry
+
+found : (house : List ℕ) (y : Symbol) → readSymbols house ≡ Good → Found y (symbolIn house standardRecord y)
+found house y g = by (symbol-found house g y)
   where
-    by : {b : List ℕ} → SymbolIs house y b → IsBody b
-    by (own es w e a q) = passed house es g w .bodies e a
-    by (standard es ds w f v d a q) = passed standardRecord ds standard-good v .bodies d a
+    by : {b : List ℕ} → SymbolIs house y b → Found y b
+    by (own es w e a q) = record { entry = e; its = refl; of = q; is-entry = all-among (w .all) a; has = passed house es g w .bodies e a }
+    by (standard es ds w f v d a q) =
+        record { entry = d; its = refl; of = q; is-entry = all-among (v .all) a; has = passed standardRecord ds standard-good v .bodies d a }
+
+-- it has at most four bytes
+pub found-four : (house : List ℕ) (y : Symbol) → readSymbols house ≡ Good → length (symbolIn house standardRecord y) ≤ 4
+found-four house y g =
+    let r = found house y g in
+    omega (arith, ap length (r .its), r .is-entry .most, longest-four (r .is-entry .symbol))
+
+-- a symbol that prints is one code point of UTF-8 that is no ASCII digit
+pub found-fits : (house : List ℕ) (y : Symbol) → readSymbols house ≡ Good → (y ≡ Minimum → ⊥) → bodyFits (symbolIn house standardRecord y) ≡ true
+found-fits house y g n =
+    let r = found house y g in
+    body-told (symbolIn house standardRecord y) .1 (subst IsBody (sym (r .its)) (by (r .has) (r .of)))
+  where
+    by : {e : Entry} → HasBody e → Of y e → IsBody (e .body)
+    by (text m w) q = w
+    by {e} (minimum o w) q = absurd (n (same-upper y (sym q ∙ o)))
+      where
+        same-upper : (x : Symbol) → upperOf x ≡ 7 → x ≡ Minimum
+        same-upper Decimal k = absurd (omega (arith, k))
+        same-upper Group k = absurd (omega (arith, k))
+        same-upper Minus k = absurd (omega (arith, k))
+        same-upper Plus k = absurd (omega (arith, k))
+        same-upper Percent k = absurd (omega (arith, k))
+        same-upper Permille k = absurd (omega (arith, k))
+        same-upper Minimum k = refl
+
+-- the minimum grouping digits are one byte, 01 to 04
+pub found-minimum : (house : List ℕ) → readSymbols house ≡ Good
+    → let b = symbolIn house standardRecord Minimum in (length b ≡ 1) × (1 ≤ getD b 0 0) × (getD b 0 0 ≤ 4)
+found-minimum house g =
+    let r = found house Minimum g in
+    let s : r .is-entry .symbol ≡ Minimum = of-told (r .entry) (r .is-entry) Minimum .0 (r .of) in
+    let m : length (r .entry .body) ≤ 1 = omega (arith, r .is-entry .most, ap longest s) in
+    let w = subst IsMinimum (sym (r .its)) (by (r .has) (r .of)) in
+    (omega (arith, ap length (r .its), m, r .is-entry .least), w .least, w .most)
+  where
+    by : {e : Entry} → HasBody e → Of Minimum e → IsMinimum (e .body)
+    by (text m w) q = absurd (m q)
+    by (minimum o w) q = w

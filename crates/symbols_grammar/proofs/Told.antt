@@ -3,9 +3,9 @@ use mathlib.Core.Path.{_≡_, refl, sym, ap, subst, _∙_}
 use mathlib.Core.Bool.{true, false, not}
 use mathlib.Core.List.{List, [], _∷_, _++_, append-nil}
 use mathlib.Core.Logic.{_↔_}
-use Prim.Native.Nat.{ℕ, _+_, _/_, _≤_}
+use Prim.Native.Nat.{ℕ, _+_, _/_, _≤_, _<_}
 use native.Mathlib.Omega.{arith}
-use borrow.Author.Tests.{eq-eqb, ne-eqb, eqb-true, eqb-false, le-ltb, ltb-false}
+use borrow.Author.Tests.{eq-eqb, ne-eqb, eqb-true, eqb-false, lt-ltb, le-ltb, ltb-true, ltb-false}
 use lib.Dec.{eqb, ltb}
 use lib.ListN.{length, getD, length-append}
 use Rattle.decimal.specs.Digits.{isDigit}
@@ -17,8 +17,9 @@ use Rattle.utf8.proofs.Scalars.{char-sound, char-complete, spell-some}
 use Rattle.records.specs.Entries.{Entry}
 use Rattle.records.specs.Spelled.{Among}
 use Rattle.records.proofs.Told.{every-told, one-fails}
-use Rattle.symbols.specs.Entries.{bodyFits, entryFits, bodiesFit}
-use Rattle.symbols_grammar.specs.Record.{IsBody}
+use Rattle.symbols.specs.Kinds.{nameOf}
+use Rattle.symbols.specs.Entries.{bodyFits, isMinimum, entryFits, bodiesFit}
+use Rattle.symbols_grammar.specs.Record.{IsBody, IsMinimum, HasBody, text, minimum}
 
 -- ---- "The body is one UTF-8 code point, not an ASCII digit."
 
@@ -80,20 +81,41 @@ is-body {b} w =
 pub body-told : (b : List ℕ) → (bodyFits b ≡ true) ↔ IsBody b
 body-told b = (body-is b, is-body)
 
+-- ---- kind 71's: "whose one-byte body is 01 to 04"
+
+minimum-is : (b : List ℕ) → isMinimum (getD b 0 0) ≡ true → IsMinimum b
+minimum-is b f =
+    tested (ltb (getD b 0 0) 1) (λ k. not-both (rw k at f) refl)
+    (λ k. record { least = ltb-false (getD b 0 0) 1 k; most = omega (arith, ltb-true (getD b 0 0) 5 (rw k at f)) })
+
+is-minimum : {b : List ℕ} → IsMinimum b → isMinimum (getD b 0 0) ≡ true
+is-minimum {b} w = rw (le-ltb (getD b 0 0) 1 (w .least), lt-ltb (getD b 0 0) 5 (omega (arith, w .most)))
+
+-- ---- an entry's, by its symbol
+
+has-body : (e : Entry) → entryFits e ≡ true → HasBody e
+has-body e f =
+    tested (eqb (nameOf (e .kind)) 7) (λ k. minimum (eqb-true (nameOf (e .kind)) 7 k) (minimum-is (e .body) (rw k at f)))
+    (λ k. text (eqb-false (nameOf (e .kind)) 7 k) (body-is (e .body) (rw k at f)))
+
+fits-body : {e : Entry} → HasBody e → entryFits e ≡ true
+fits-body {e} (text n w) = rw (ne-eqb (nameOf (e .kind)) 7 n) (is-body w)
+fits-body {e} (minimum o w) = rw (eq-eqb (nameOf (e .kind)) 7 o) (is-minimum w)
+
 -- ---- all bodies
 
-pub bodies-told : (es : List Entry) → (bodiesFit es ≡ true) ↔ ((e : Entry) → Among e es → IsBody (e .body))
+pub bodies-told : (es : List Entry) → (bodiesFit es ≡ true) ↔ ((e : Entry) → Among e es → HasBody e)
 bodies-told es =
     let t = every-told entryFits es in
-    (λ k e a. body-is (e .body) (t .0 k e a), λ f. t .1 (λ e a. is-body (f e a)))
+    (λ k e a. has-body e (t .0 k e a), λ f. t .1 (λ e a. fits-body (f e a)))
 
 -- an entry whose body is not as it must be
 pub record Unfit (es : List Entry) : Type 0 where
   pub entry : Entry
   pub among : Among entry es
-  pub no-body : IsBody (entry .body) → ⊥
+  pub no-body : HasBody entry → ⊥
 
 pub unfit-entry : (es : List Entry) → bodiesFit es ≡ false → Unfit es
 unfit-entry es f =
     let r = one-fails entryFits es f in
-    record { entry = r .entry; among = r .among; no-body = λ w. not-both (is-body w) (r .fails) }
+    record { entry = r .entry; among = r .among; no-body = λ w. not-both (fits-body w) (r .fails) }

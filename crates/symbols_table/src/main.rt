@@ -1,5 +1,5 @@
 // Reads symbol records, one a line, and prints for each `good`, or `!` and the number of its
-// refusal, and then the bytes of the bodies that the finder gives for the six symbols.
+// refusal, and then the bytes of the bodies that the finder gives for the seven symbols.
 //
 // The input holds, besides rows of our own, the symbol records of Unicode CLDR 41 (Unicode, Inc. License
 // Agreement for Data Files and Software, (c) 1991-2022 Unicode, Inc.).
@@ -63,6 +63,7 @@ fn print_record(record: &[u8]) {
     print_symbol(record, Symbol::Plus);
     print_symbol(record, Symbol::Percent);
     print_symbol(record, Symbol::Permille);
+    print_symbol(record, Symbol::Minimum);
     io::write_all(STDOUT_FILENO, b"\n");
 }
 

@@ -133,22 +133,93 @@ fn utf8() {
     }
 }
 
-/// Every kind byte, and records of kinds and bodies in any order.
+/// Every kind byte, with bodies of every length and every body of one byte, and records of kinds and bodies in any order.
 #[test]
 fn symbols() {
     for kind in 0..=255 {
+        for body in 0..=255 {
+            sides::print([&[kind, body], b"+0.0%;-#,##0.0%", b"-1234.5"], AREA);
+        }
         for length in 0..=5 {
             let record = [&[kind][..], &"x€x".as_bytes()[..length]].concat();
             sides::print([&record, b"+0.0%;-#,##0.0%", b"-1234.5"], AREA);
         }
     }
     sequences(
-        &bytes(b"\x11\x12\x21\x31\x63\x70a0\xC2\xA0"),
+        &bytes(b"\x11\x12\x21\x31\x63\x70\x71\x02\x05a0\xC2\xA0"),
         5,
         &mut |record| {
             sides::print([record, b"#,##0.0", b"-1234.5"], AREA);
         },
     );
+}
+
+/// Every body of the minimum grouping digits, alone and before and behind other entries, whole and cut short.
+#[test]
+fn minima() {
+    let entries: [&[u8]; 11] = [
+        b"",
+        b"\x71",
+        b"\x71\x02",
+        b"\x71\x05",
+        b"\x72\x02\x02",
+        b"\x73",
+        b"\x74\x02",
+        b"\x21",
+        b"\x21 ",
+        b"\x210",
+        b"\x22\xC2\xA0",
+    ];
+    for body in 0..=255 {
+        for before in entries {
+            for behind in entries {
+                let record = [before, &[0x71, body], behind].concat();
+                sides::print([&record, b"#,##0.0", b"-1234.5"], AREA);
+            }
+        }
+    }
+}
+
+/// Every minimum with groups of several sizes and every count of digits, printed or added.
+#[test]
+fn grouping() {
+    for pattern in [
+        "#,##0",
+        "0,0",
+        "#,#,00",
+        "#,##,##0.#",
+        "0,000",
+        "00,000",
+        "#,000,0",
+        "000,000,000,000,000",
+        "#,00000000000000‰",
+        "#,##0%",
+        "#,###.0",
+    ] {
+        for digits in 0..=15 {
+            let number = format!("0{}", &"987654321012345"[..digits]);
+            for minimum in 1..=4 {
+                let record = [0x71, minimum, 0x22, 0xC2, 0xA0];
+                sides::print([&record, pattern.as_bytes(), number.as_bytes()], AREA);
+            }
+        }
+    }
+}
+
+/// The records of the languages whose minimum is not 1.
+#[test]
+fn languages() {
+    let table = include_str!("../../plain/tests/data/grouping-symbols.tsv");
+    for row in table.lines().filter(|line| !line.starts_with('#')) {
+        let record: Vec<u8> = (row.rsplit('\t').next().unwrap().split(' '))
+            .map(|byte| u8::from_str_radix(byte, 16).unwrap())
+            .collect();
+        for pattern in ["#,##0", "0,000", "00,000", "#,##0.0#"] {
+            for number in ["5", "1234", "12345", "123456", "1234567", "-1234.5"] {
+                sides::print([&record, pattern.as_bytes(), number.as_bytes()], AREA);
+            }
+        }
+    }
 }
 
 /// All numbers below 200 with two fraction digits, rounded by several steps.

@@ -205,6 +205,29 @@ fn check() {
     });
 }
 
+/// The record with 1 as its minimum grouping digits, if it has any.
+fn with_least_minimum(record: &[u8]) -> Option<Vec<u8>> {
+    let mut place = 0;
+    while *record.get(place)? != 0x71 {
+        place += 1 + usize::from(record[place] & 15);
+    }
+    let mut changed = record.to_vec();
+    *changed.get_mut(place + 1)? = 1;
+    Some(changed)
+}
+
+/// Counts whether the minimum grouping digits of a well-formed record keep groups out of a printed text.
+fn count_minimum([symbols, pattern, number]: [&[u8]; 3], length: usize, tally: &mut Tally) {
+    let Some(least) = with_least_minimum(symbols) else {
+        return;
+    };
+    let by_least = plain::print(&least, pattern, number, &mut [0; LARGE]);
+    tally.count(match by_least {
+        Ok(longer) if longer > length => "printed, groups held back",
+        _ => "printed with a minimum",
+    });
+}
+
 /// Compares at every size that matters: nothing, one byte, one less than needed, needed, one more, large.
 fn print_sizes(inputs: [&[u8]; 3], tally: &mut Tally) {
     let answer = sides::print(inputs, LARGE);
@@ -215,6 +238,7 @@ fn print_sizes(inputs: [&[u8]; 3], tally: &mut Tally) {
     }
     tally.count("printed");
     let needed = answer.figures[1] as usize;
+    count_minimum(inputs, needed, tally);
     for size in [0, 1, needed - 1, needed, needed + 1] {
         let answer = sides::print(inputs, size);
         match answer.number {
@@ -234,7 +258,15 @@ fn print_number(random: &mut Random) -> Vec<u8> {
 #[test]
 fn print() {
     let mut kinds = rows(&[&NUMBER_ROWS, &PATTERN_ROWS, &[50, 51]]);
-    kinds.extend(["printed", "printed into a close area"].map(String::from));
+    kinds.extend(
+        [
+            "printed",
+            "printed into a close area",
+            "printed with a minimum",
+            "printed, groups held back",
+        ]
+        .map(String::from),
+    );
     run("print", &kinds, |random, tally| {
         let symbols = generate::symbols(random);
         let pattern = match random.below(80) {

@@ -146,9 +146,10 @@ pub fn check(pack: &[u8]) -> Result<(), Refusal> {
 
 /// Prints a number through a pattern at the front of `out` and returns the text's length.
 ///
-/// `symbols` is a record of locale symbols; what it lacks is taken from the standard record, so an empty one gives `.`, `,`, `-`, `+`, `%`, `‰`. Tests
-/// the symbols (40, 41), the pattern (30 to 36), the number (10 to 15), then 50 and 51. A refusal leaves `out` untouched, a success writes no byte
-/// behind the text.
+/// `symbols` is a record of locale symbols; what it lacks is taken from the standard record, so an empty one gives `.`, `,`, `-`, `+`, `%`, `‰`. The
+/// body of kind 71 is the minimum grouping digits, a number from 1 to 4 (1 without it): groups are printed where the integer digits, added zeros
+/// included, are at least those of the primary group and that number more. Tests the symbols (40, 41), the pattern (30 to 36), the number (10 to 15),
+/// then 50 and 51. A refusal leaves `out` untouched, a success writes no byte behind the text.
 ///
 /// ```
 /// use okwazibelu::{Refusal, print};
@@ -160,6 +161,12 @@ pub fn check(pack: &[u8]) -> Result<(), Refusal> {
 /// let french = b"\x11,\x21 ";
 /// let length = print(french, b"#,##0.##", b"1234.567", &mut out)?;
 /// assert_eq!(&out[..length], b"1 234,57");
+///
+/// let polish = b"\x11,\x21 \x71\x02";
+/// let length = print(polish, b"#,##0.##", b"1234.567", &mut out)?;
+/// assert_eq!(&out[..length], b"1234,57");
+/// let length = print(polish, b"#,##0.##", b"12345.678", &mut out)?;
+/// assert_eq!(&out[..length], b"12 345,68");
 ///
 /// assert_eq!(print(b"", b"000", b"1", &mut out[..2]), Err(Refusal::AreaTooSmall { needed: 3 }));
 /// # Ok::<(), Refusal>(())

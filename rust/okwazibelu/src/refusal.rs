@@ -64,7 +64,7 @@ pub enum Refusal {
     Marks,
     /// 40: symbol record: unknown kind, body cut short, or symbol twice.
     SymbolRecord,
-    /// 41: symbol record: body not one UTF-8 code point, or an ASCII digit.
+    /// 41: symbol record: body not one UTF-8 code point, an ASCII digit, or minimum grouping digits not 01 to 04.
     SymbolBody,
     /// 50: printing a number with an exponent.
     PrintExponent,
@@ -193,7 +193,7 @@ impl Refusal {
             ),
             Refusal::SymbolBody => (
                 41,
-                "symbol record: body not one UTF-8 code point, or an ASCII digit",
+                "symbol record: body not one UTF-8 code point, an ASCII digit, or minimum not 01 to 04",
             ),
             Refusal::PrintExponent => (50, "printing a number with an exponent"),
             Refusal::AreaTooSmall { .. } => (51, "text longer than the output area"),

@@ -70,12 +70,45 @@ fn signs() {
 }
 
 #[test]
+fn minimum_grouping() {
+    for (symbols, pattern, number, text) in [
+        (&b""[..], "#,##0", "1234", "1,234"),
+        (b"\x71\x01", "#,##0", "1234", "1,234"),
+        (b"\x71\x02", "#,##0", "1234", "1234"),
+        (b"\x71\x02", "#,##0", "12345", "12,345"),
+        (b"\x71\x02", "#,##0", "1234567", "1,234,567"),
+        (b"\x71\x02", "0,000", "5", "0005"),
+        (b"\x71\x02", "00,000", "5", "00,005"),
+        (b"\x71\x03", "#,##0", "12345", "12345"),
+        (b"\x71\x04", "#,##0", "123456", "123456"),
+        (b"\x71\x04", "#,##0", "1234567", "1,234,567"),
+        (b"\x21.\x71\x02\x11,", "#,##0.0", "-12345.5", "-12.345,5"),
+    ] {
+        let mut out = [0; 16];
+        let length = print(symbols, pattern.as_bytes(), number.as_bytes(), &mut out);
+        let written = length.map(|length| &out[..length]);
+        assert_eq!(
+            written,
+            Ok(text.as_bytes()),
+            "{symbols:x?} {pattern} {number}"
+        );
+    }
+}
+
+#[test]
 fn refused_printing() {
     let long = [b'0'; 257];
     let mut out = [7; 3];
     for (symbols, pattern, text, number) in [
         (&b"\x10"[..], &b"0"[..], &b"1"[..], 40),
+        (b"\x71", b"0", b"1", 40),
+        (b"\x71\x02\x71\x02", b"0", b"1", 40),
+        (b"\x72\x02\x02", b"0", b"1", 40),
+        (b"\x71\x00\x71", b"0", b"1", 40),
         (b"\x110", b"0", b"1", 41),
+        (b"\x71\x00", b"0", b"1", 41),
+        (b"\x71\x05", b"0", b"1", 41),
+        (b"\x712", b"0", b"1", 41),
         (b"", &long, b"1", 30),
         (b"", b"\xFF", b"1", 31),
         (b"", b"*", b"1", 32),

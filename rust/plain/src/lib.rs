@@ -1,4 +1,4 @@
-//! Plural words and printed numbers by Unicode UTS #35 Part 3 as document 01 narrows it, in ordinary Rust.
+//! Plural words and printed numbers by Unicode UTS #35 Part 3 as documents 01 and 02 narrow it, in ordinary Rust.
 //!
 //! An independent second implementation: it shares no code with the proved library and is compared with it.
 //!
@@ -12,6 +12,11 @@
 //! let mut area = [0; 8];
 //! assert_eq!(print(b"", b"0.0", b"0.349", &mut area), Ok(3));
 //! assert_eq!(&area[..3], b"0.3");
+//!
+//! let minimum = b"\x71\x02";
+//! assert_eq!(print(minimum, b"#,##0", b"1234", &mut area), Ok(4));
+//! assert_eq!(print(minimum, b"#,##0", b"12345", &mut area), Ok(6));
+//! assert_eq!(&area[..6], b"12,345");
 //! ```
 
 #![forbid(unsafe_code)]

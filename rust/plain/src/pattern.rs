@@ -29,7 +29,7 @@ pub(crate) struct NumberPart {
     pub least_integer: usize,
     pub least_fraction: usize,
     pub most_fraction: usize,
-    /// Sizes of the primary and secondary group, if the integer is grouped.
+    /// Sizes of the primary and secondary group, if the pattern has groups.
     pub groups: Option<(usize, usize)>,
     /// Rounding increment in units of the last fraction place, at least 1.
     pub step: u128,

@@ -84,14 +84,18 @@ fn push_number(text: &mut String, symbols: &Symbols, part: &NumberPart, value: u
     }
 }
 
+/// Prints the integer digits, grouped if they, added zeros included, are at least the primary group and the minimum grouping digits together.
 fn push_integer(text: &mut String, symbols: &Symbols, part: &NumberPart, value: u128) {
     if value == 0 && part.least_integer == 0 {
         return;
     }
     let digits = format!("{value:0width$}", width = part.least_integer);
+    let groups = part
+        .groups
+        .filter(|(primary, _)| digits.len() >= primary + symbols.minimum_grouping);
     for (place, digit) in digits.chars().enumerate() {
-        let behind = digits.len() - place;
-        if place > 0 && part.groups.is_some_and(|groups| ends_group(groups, behind)) {
+        let left = digits.len() - place;
+        if place > 0 && groups.is_some_and(|groups| ends_group(groups, left)) {
             text.push(symbols.get(Symbol::Group));
         }
         text.push(digit);

@@ -57,7 +57,7 @@ pub enum Refusal {
     Marks,
     /// 40: unknown kind, body cut short, symbol twice.
     SymbolRecord,
-    /// 41: body not one UTF-8 code point, or an ASCII digit.
+    /// 41: body not one UTF-8 code point, or an ASCII digit; minimum grouping digits not 1 to 4.
     SymbolBody,
     /// 50: printing a number with an exponent.
     PrintExponent,

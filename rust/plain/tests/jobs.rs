@@ -1,6 +1,6 @@
-//! Jobs of document 01's bench program with their answers, line by line.
+//! Jobs with their answers, line by line: those of document 01's bench program, and ones in hexadecimal that bring symbols and an area's size along.
 
-use plain::{Refusal, check, print, select};
+use plain::{Number, Refusal, check, print, read_number, select};
 
 /// The program's output area.
 const AREA: usize = 2048;
@@ -27,6 +27,59 @@ fn answer(line: &[u8]) -> Vec<u8> {
     }
 }
 
+/// The answer to a job whose fields, but for the size of an area, are in hexadecimal.
+fn hex_answer(line: &[u8]) -> Vec<u8> {
+    let line = str::from_utf8(line).expect("a job in hexadecimal is text");
+    let fields: Vec<&str> = line.split('\t').collect();
+    match fields[..] {
+        ["N", number] => report('N', read_number(&bytes(number)).map(operands)),
+        ["S", pack, number, "n"] => {
+            let word = select(&bytes(pack), &bytes(number));
+            report('S', word.map(|keyword| keyword.name().into()))
+        }
+        ["C", pack, "n"] => report('C', check(&bytes(pack)).map(|()| b"ok".to_vec())),
+        ["F", symbols, pattern, number, size, ""] => {
+            let size = size.parse().expect("a size");
+            report('F', print_hex([symbols, pattern, number].map(bytes), size))
+        }
+        _ => panic!("no job: {line}"),
+    }
+}
+
+fn bytes(hex: &str) -> Vec<u8> {
+    let pairs = hex.as_bytes().chunks(2).map(|pair| {
+        let pair = str::from_utf8(pair).ok()?;
+        u8::from_str_radix(pair, 16).ok()
+    });
+    pairs.collect::<Option<_>>().expect(hex)
+}
+
+fn operands(number: Number) -> Vec<u8> {
+    let Number {
+        negative,
+        e,
+        v,
+        i,
+        f,
+        w,
+        t,
+    } = number;
+    format!("{} {e} {v} {i} {f} {w} {t}", u8::from(negative)).into_bytes()
+}
+
+/// Prints into an area of that size, all of which but the text must stay as it was.
+fn print_hex([symbols, pattern, number]: [Vec<u8>; 3], size: usize) -> Result<Vec<u8>, Refusal> {
+    let before: Vec<u8> = (0..size).map(|place| (place * 37 + 11) as u8).collect();
+    let mut area = before.clone();
+    let length = print(&symbols, &pattern, &number, &mut area);
+    let written = length.unwrap_or(0);
+    assert_eq!(area[written..], before[written..]);
+    length.map(|_| {
+        let text = area[..written].iter().map(|byte| format!("{byte:02x}"));
+        text.collect::<String>().into_bytes()
+    })
+}
+
 fn report(letter: char, answer: Result<Vec<u8>, Refusal>) -> Vec<u8> {
     match answer {
         Ok(text) => [format!("{letter} ").as_bytes(), &text].concat(),
@@ -45,7 +98,7 @@ fn lines(file: &[u8]) -> Vec<&[u8]> {
     file.split(|&b| b == b'\n').collect()
 }
 
-fn compare(jobs: &[u8], answers: &[u8]) {
+fn compare(answer: fn(&[u8]) -> Vec<u8>, jobs: &[u8], answers: &[u8]) {
     let (jobs, answers) = (lines(jobs), lines(answers));
     assert_eq!(jobs.len(), answers.len());
     for (job, expected) in jobs.iter().zip(answers) {
@@ -61,6 +114,7 @@ fn compare(jobs: &[u8], answers: &[u8]) {
 #[test]
 fn bench_card() {
     compare(
+        answer,
         include_bytes!("data/card.jobs"),
         include_bytes!("data/card.answers"),
     );
@@ -70,8 +124,19 @@ fn bench_card() {
 #[test]
 fn made_up_jobs() {
     compare(
+        answer,
         include_bytes!("data/base.jobs"),
         include_bytes!("data/base.answers"),
+    );
+}
+
+/// Jobs of the same kind, most of them with minimum grouping digits in their symbols.
+#[test]
+fn made_up_jobs_with_symbols() {
+    compare(
+        hex_answer,
+        include_bytes!("data/grouping.jobs"),
+        include_bytes!("data/grouping.answers"),
     );
 }
 

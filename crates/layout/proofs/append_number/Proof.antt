@@ -16,6 +16,9 @@ find-requires c κs = search needs
 whole-shown-requires : tie.Need-whole-shown-requires
 whole-shown-requires c κs = search needs
 
+primary-size-requires : tie.Need-primary-size-requires
+primary-size-requires c κs = search needs
+
 append-digits-requires : tie.Need-append-digits-requires
 append-digits-requires c κs = search needs
 
@@ -36,13 +39,14 @@ same-length c = search needs
 
 returns : tie.Need-returns
 returns c =
-    let a = c .before .before .before .before .before .before .before .before .before .before .before .before .before .before .before .before .before .args in
-    let g = c .before .before .before .before .before .before .before .before .before .before .before .before .find in
+    let a = c .before .before .before .before .before .before .before .before .before .before .before .before .before .before .before .before .before .before .args in
+    let g = c .before .before .before .before .before .before .before .before .before .before .before .before .before .find in
     let t = c .before .before .before .before .before .find2 in
-    let w = c .before .before .before .before .before .before .before .before .before .before .before .whole-shown in
+    let w = c .before .before .before .before .before .before .before .before .before .before .before .before .whole-shown in
+    let z = c .before .before .before .before .before .before .before .before .before .before .before .primary-size in
     let f = c .before .before .before .fraction-shown in
-    renamed (number-is (symbolIn (a .house .now) standardRecord) (a .p) (a .d .now) (g .result .now) (t .result .now) (w .result .now) (f .result .now) (g .ensures) (t .ensures) (w .ensures) (f .ensures))
-    (joined (omega (arith, c .before .before .before .before .before .before .before .before .before .before .before .before .before .before .before .before)) (c .before .before .before .before .before .before .before .before .before .append-digits .ensures) (c .before .before .append-fraction .ensures))
+    renamed (number-is (symbolIn (a .house .now) standardRecord) (a .p) (a .d .now) (g .result .now) (t .result .now) (w .result .now) (f .result .now) (z .result) (g .ensures) (t .ensures) (w .ensures) (z .ensures) (f .ensures))
+    (joined (omega (arith, c .before .before .before .before .before .before .before .before .before .before .before .before .before .before .before .before .before)) (c .before .before .before .before .before .before .before .before .before .append-digits .ensures) (c .before .before .append-fraction .ensures))
 
 pub append-number-spec : {M : Type 1} → statement M
 append-number-spec =
@@ -51,6 +55,7 @@ append-number-spec =
     slice-aggregate-find
     find-requires
     whole-shown-requires
+    primary-size-requires
     append-digits-requires
     slice-aggregate-find-2
     find-requires-2

@@ -34,8 +34,8 @@ after-requires c κs = search needs
 upto-requires : tie.Need-upto-requires Inv-loop μ-loop
 upto-requires c κs = search needs
 
-body-fits-requires : tie.Need-body-fits-requires Inv-loop μ-loop
-body-fits-requires c κs = search needs
+fits-as-requires : tie.Need-fits-as-requires Inv-loop μ-loop
+fits-as-requires c κs = search needs
 
 add-i : tie.Need-add-i Inv-loop μ-loop
 add-i c = search needs
@@ -48,13 +48,15 @@ loop-less c = search needs
 
 loop-again : tie.Need-loop-again Inv-loop μ-loop
 loop-again c =
-    let f = rw (c .before .before .before .upto .ensures, c .before .before .before .before .after .ensures) at (c .before .before .body-fits .ensures) in
-    (omega (arith, c .before .before .before .before .before .before .before .head-at .ensures .within), every-again (turn (c .before .before .before .before .before .before .before .head-at .ensures) (c .before .before .before .before .before .if1 .left)) entryFits (sym f ∙ c .before .if2 .taken) (c .before .before .before .before .before .before .before .before .before .loop .inv .1))
+    let t = turn (c .before .before .before .before .before .before .before .head-at .ensures) (c .before .before .before .before .before .if1 .left) in
+    let f = rw (c .before .before .before .upto .ensures, c .before .before .before .before .after .ensures, t .name) at (c .before .before .fits-as .ensures) in
+    (omega (arith, c .before .before .before .before .before .before .before .head-at .ensures .within), every-again t entryFits (sym f ∙ c .before .if2 .taken) (c .before .before .before .before .before .before .before .before .before .loop .inv .1))
 
 returns-2 : tie.Need-returns-2 Inv-loop μ-loop
 returns-2 c =
-    let f = rw (c .before .before .upto .ensures, c .before .before .before .after .ensures) at (c .before .body-fits .ensures) in
-    sym (every-fails (turn (c .before .before .before .before .before .before .head-at .ensures) (c .before .before .before .before .if1 .left)) entryFits (sym f ∙ c .if2 .left)) ∙ c .before .before .before .before .before .before .before .before .loop .inv .1
+    let t = turn (c .before .before .before .before .before .before .head-at .ensures) (c .before .before .before .before .if1 .left) in
+    let f = rw (c .before .before .upto .ensures, c .before .before .before .after .ensures, t .name) at (c .before .fits-as .ensures) in
+    sym (every-fails t entryFits (sym f ∙ c .if2 .left)) ∙ c .before .before .before .before .before .before .before .before .loop .inv .1
 
 returns-3 : tie.Need-returns-3 Inv-loop μ-loop
 returns-3 c = sym (ap bodiesFit (entries-out lengthOf (c .before .before .before .args .s .now) (c .before .loop .i) (c .loop-test .left))) ∙ c .before .loop .inv .1
@@ -71,7 +73,7 @@ do-bodies-fit-spec =
     add-after
     after-requires
     upto-requires
-    body-fits-requires
+    fits-as-requires
     add-i
     add-i-2
     loop-less

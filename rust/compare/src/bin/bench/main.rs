@@ -130,6 +130,9 @@ fn select(table: &mut Table) {
 
 const LONG_NUMBER: &str = "-123456789012345.123456789";
 
+/// A comma, a no-break space, and groups from five integer digits on.
+const POLISH: &[u8] = b"\x11,\x22\xC2\xA0\x71\x02";
+
 fn print(table: &mut Table) {
     let long = format!("{}#,##0.00 'km'", "é".repeat(121));
     let patterns = [
@@ -151,33 +154,47 @@ fn print(table: &mut Table) {
     for pattern in patterns {
         for (name, number) in [("1234.567", "1234.567"), ("long", LONG_NUMBER)] {
             for size in [64, 2048] {
-                let mut area = vec![0; size];
-                let answer = plain::print(b"", pattern.as_bytes(), number.as_bytes(), &mut area);
-                let answer = named(answer, |length| format!("{length} bytes"));
                 let shown = if pattern.len() > 40 {
                     format!("pattern of {} bytes", pattern.len())
                 } else {
                     pattern.to_string()
                 };
-                let label = format!("{shown}  {name}, area {size}  ({answer})");
-                table.row(&label, print_times(pattern, number, size));
+                let label = format!("{shown}  {name}");
+                print_row(
+                    table,
+                    &label,
+                    [b"", pattern.as_bytes(), number.as_bytes()],
+                    size,
+                );
             }
         }
     }
+    table.section("print", "print, symbols 11 2C 22 C2 A0 71 02");
+    for (name, number) in [("not grouped", "1234.567"), ("grouped", "12345.678")] {
+        let label = format!("#,##0.##  {number}, {name}");
+        print_row(table, &label, [POLISH, b"#,##0.##", number.as_bytes()], 64);
+    }
 }
 
-fn print_times(pattern: &str, number: &str, size: usize) -> (f64, f64) {
-    let (pattern, number) = (pattern.as_bytes(), number.as_bytes());
+fn print_row(table: &mut Table, label: &str, inputs: [&[u8]; 3], size: usize) {
+    let [symbols, pattern, number] = inputs;
+    let answer = plain::print(symbols, pattern, number, &mut vec![0; size]);
+    let answer = named(answer, |length| format!("{length} bytes"));
+    let label = format!("{label}, area {size}  ({answer})");
+    table.row(&label, print_times(inputs, size));
+}
+
+fn print_times([symbols, pattern, number]: [&[u8]; 3], size: usize) -> (f64, f64) {
     let (mut plain_area, mut proved_area) = (vec![0; size], vec![0; size]);
     let mut figures = [0; 8];
-    let answer = plain::print(b"", pattern, number, &mut plain_area);
-    let proved = raw::print(b"", pattern, number, &mut proved_area, &mut figures);
+    let answer = plain::print(symbols, pattern, number, &mut plain_area);
+    let proved = raw::print(symbols, pattern, number, &mut proved_area, &mut figures);
     agree(&answer, proved);
     assert_eq!(plain_area, proved_area, "the two sides print the same");
     times(
         || {
             plain::print(
-                b"",
+                black_box(symbols),
                 black_box(pattern),
                 black_box(number),
                 black_box(&mut plain_area),
@@ -185,7 +202,7 @@ fn print_times(pattern: &str, number: &str, size: usize) -> (f64, f64) {
         },
         || {
             raw::print(
-                b"",
+                black_box(symbols),
                 black_box(pattern),
                 black_box(number),
                 black_box(&mut proved_area),
