@@ -12,12 +12,12 @@ use answer::Witness;
 use check_laws::Checked;
 use libc::STDIN_FILENO;
 use libc::STDOUT_FILENO;
-use pack_reader::Read;
 use pack_rules::ClauseEnds;
 use pack_rules::Columns;
 use pack_rules::Keywords;
 use pack_rules::RangeEnds;
 use pack_rules::RuleEnds;
+use pack_verdict::Read;
 
 // What the two engines answer for one pack.
 pub struct Answers {

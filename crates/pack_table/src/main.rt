@@ -5,12 +5,12 @@ ghost use lib.ListN.{length};
 use answer::Refusal;
 use libc::STDIN_FILENO;
 use libc::STDOUT_FILENO;
-use pack_reader::Read;
 use pack_rules::ClauseEnds;
 use pack_rules::Columns;
 use pack_rules::Keywords;
 use pack_rules::RangeEnds;
 use pack_rules::RuleEnds;
+use pack_verdict::Read;
 
 fn wide(x: usize) -> u64 {
     x as u64

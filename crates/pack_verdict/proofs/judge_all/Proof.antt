@@ -1,8 +1,8 @@
 -- `judge_all` goes by the length.
 use borrow.Author.Tests.{lt-ltb, le-ltb}
 use borrow.Author.Needs.{needs}
-use Rattle.pack_reader.proofs.judge_all.Statement.{statement}
-use Rattle.pack_reader.proofs.judge_all.Tie as tie
+use Rattle.pack_verdict.proofs.judge_all.Statement.{statement}
+use Rattle.pack_verdict.proofs.judge_all.Tie as tie
 
 returns : tie.Need-returns
 returns c = rw (lt-ltb _ _ (c .if1 .taken))

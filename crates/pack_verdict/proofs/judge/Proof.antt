@@ -1,7 +1,7 @@
 -- `judge` goes by the phase.
 use borrow.Author.Needs.{needs}
-use Rattle.pack_reader.proofs.judge.Statement.{statement}
-use Rattle.pack_reader.proofs.judge.Tie as tie
+use Rattle.pack_verdict.proofs.judge.Statement.{statement}
+use Rattle.pack_verdict.proofs.judge.Tie as tie
 
 same-phase-requires : tie.Need-same-phase-requires
 same-phase-requires c κs = search needs

@@ -1,10 +1,10 @@
 use mathlib.Core.Path.{sym}
-use Rattle.pack_reader.specs.Board.{rowFor}
-use Rattle.pack_reader.proofs.Flats.{row-out}
--- `pack_reader::put_row` stores where the test holds; past the end there is nothing to store into.
+use Rattle.pack_columns.specs.Stored.{rowFor}
+use Rattle.pack_columns.proofs.Rows.{row-out}
+-- `pack_columns::put_row` stores where the test holds; past the end there is nothing to store into.
 use borrow.Author.Needs.{needs}
-use Rattle.pack_reader.proofs.put_row.Statement.{statement}
-use Rattle.pack_reader.proofs.put_row.Tie as tie
+use Rattle.pack_columns.proofs.put_row.Statement.{statement}
+use Rattle.pack_columns.proofs.put_row.Tie as tie
 
 whole-requires : tie.Need-whole-requires
 whole-requires c κs = search needs

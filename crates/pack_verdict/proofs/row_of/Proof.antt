@@ -1,7 +1,7 @@
 -- `row_of` goes by its tests.
 use borrow.Author.Tests.{eq-eqb, ne-eqb}
-use Rattle.pack_reader.proofs.row_of.Statement.{statement}
-use Rattle.pack_reader.proofs.row_of.Tie as tie
+use Rattle.pack_verdict.proofs.row_of.Statement.{statement}
+use Rattle.pack_verdict.proofs.row_of.Tie as tie
 
 returns : tie.Need-returns
 returns c = rw (eq-eqb _ _ (c .if1 .taken))

@@ -1,8 +1,8 @@
 -- `read_by` goes by whether there is a fault.
 use borrow.Author.Tests.{eq-eqb, ne-eqb}
 use borrow.Author.Needs.{needs}
-use Rattle.pack_reader.proofs.read_by.Statement.{statement}
-use Rattle.pack_reader.proofs.read_by.Tie as tie
+use Rattle.pack_verdict.proofs.read_by.Statement.{statement}
+use Rattle.pack_verdict.proofs.read_by.Tie as tie
 
 returns : tie.Need-returns
 returns c = rw (eq-eqb _ _ (c .if1 .taken))

@@ -2,8 +2,8 @@
 use mathlib.Core.Path.{sym}
 use lib.Seq.{set-out}
 use borrow.Author.Needs.{needs}
-use Rattle.pack_reader.proofs.put_bytes.Statement.{statement}
-use Rattle.pack_reader.proofs.put_bytes.Tie as tie
+use Rattle.pack_columns.proofs.put_bytes.Statement.{statement}
+use Rattle.pack_columns.proofs.put_bytes.Tie as tie
 
 slice-write-a : tie.Need-slice-write-a
 slice-write-a c = search needs
