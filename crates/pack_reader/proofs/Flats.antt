@@ -13,7 +13,7 @@ use Rattle.answer.specs.declared.Keyword.{Keyword}
 use Rattle.pack_rules.specs.Syntax.{Range, Relation, Rule}
 use Rattle.pack_rules.specs.Held.{Row, rowsOf, rowEnds, parts, keywordOf, rangesFrom, relationsFrom, rulesFrom, heldRelations, heldRules}
 use Rattle.pack_grammar.specs.Limits.{maxBytes}
-use Rattle.pack_walk.specs.Steps.{moreOf}
+use Rattle.pack_counts.specs.Counts.{moreOf}
 use Rattle.pack_columns.specs.Stored.{setRow, codeOf}
 use Rattle.pack_reader.specs.Bounds.{flat}
 use Rattle.pack_reader.specs.Board.{Arrays, packOf}

@@ -35,10 +35,10 @@ use Rattle.pack_phase.specs.Next.{nextPhase, samePhase}
 use Rattle.pack_phase.specs.declared.Phase.{Phase}
 use Rattle.pack_phase.specs.declared.Phase.the-variants.{Name, Dead}
 use Rattle.pack_phase.proofs.Phases.{phaseOf, Flag, phase-on}
+use Rattle.pack_counts.specs.declared.Counts.{Counts}
+use Rattle.pack_faults.specs.declared.Mark.{Mark}
 use Rattle.pack_walk.specs.Steps.{stopAfter}
-use Rattle.pack_walk.specs.declared.Counts.{Counts}
 use Rattle.pack_walk.specs.declared.Current.{Current}
-use Rattle.pack_walk.specs.declared.Mark.{Mark}
 use Rattle.pack_walk.specs.declared.Walk.{Walk}
 use Rattle.pack_verdict.specs.Verdict.{readBy, judged, judgedAll}
 use Rattle.pack_verdict.specs.declared.Read.{Read as Returned}

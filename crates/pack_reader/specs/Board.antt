@@ -12,9 +12,9 @@ use Rattle.pack_token.specs.Token.{Token, tokens}
 use Rattle.pack_grammar.specs.Limits.{maxBytes}
 use Rattle.pack_grammar.specs.Grammar.{Text, semi}
 use Rattle.pack_phase.specs.declared.Phase.the-variants.{Name}
+use Rattle.pack_counts.specs.declared.Counts.{Counts}
+use Rattle.pack_counts.specs.declared.Closes.{Closes}
 use Rattle.pack_walk.specs.Steps.{stepAfter}
-use Rattle.pack_walk.specs.declared.Counts.{Counts}
-use Rattle.pack_walk.specs.declared.Closes.{Closes}
 use Rattle.pack_walk.specs.declared.Current.{Current}
 use Rattle.pack_walk.specs.declared.Walk.{Walk}
 use Rattle.pack_columns.specs.Stored.{setIf, setRowIf, rowFor}
