@@ -1,12 +1,12 @@
--- `print::print_digits` lays the text out aside and learns the bytes needed; then it refuses, copies the text, or lays it out again.
+-- `print_area::write_digits` lays the text out aside and learns the bytes needed; then it writes nothing, copies the text, or lays it out again.
 use mathlib.Core.Path.{_∙_}
 use Rattle.symbols.specs.Entries.{symbolIn, standardRecord}
 use Rattle.area.proofs.Pieces.{renamed}
 use Rattle.layout.specs.Text.{affixesOf, laidOut}
-use Rattle.print.proofs.Ready.{needed, laid-aside, short-answer, full-answer}
+use Rattle.print_area.proofs.Room.{needed, laid-aside, short-text, whole-text}
 use borrow.Author.Needs.{needs}
-use Rattle.print.proofs.print_digits.Statement.{statement}
-use Rattle.print.proofs.print_digits.Tie as tie
+use Rattle.print_area.proofs.write_digits.Statement.{statement}
+use Rattle.print_area.proofs.write_digits.Tie as tie
 
 affixes-of-requires : tie.Need-affixes-of-requires
 affixes-of-requires c κs = search needs
@@ -24,7 +24,7 @@ returns c =
     let t = laidOut (symbolIn (a .house .now) standardRecord) (a .pattern .now) (a .p) (affixesOf (a .p) (a .negative)) (a .digits .now) in
     let x = c .before .before .write-text in
     let w = rw (c .before .before .before .before .affixes-of .ensures) at (x .ensures) in
-    short-answer t (a .out .now) (x .result) (needed t _ _ (x .result) (s .pre) w) (c .if1 .taken)
+    short-text t (a .out .now) (x .result) (needed t _ _ (x .result) (s .pre) w) (c .if1 .taken)
 
 slice-aggregate-upto : tie.Need-slice-aggregate-upto
 slice-aggregate-upto c = search needs
@@ -47,7 +47,7 @@ returns-2 c =
     let w = rw (c .before .before .before .before .before .before .before .before .before .before .before .affixes-of .ensures) at (x .ensures) in
     let n = needed t _ _ (x .result) (s .pre) w in
     let e = c .before .before .before .upto .ensures ∙ laid-aside t _ _ (x .result) n w (c .before .before .before .before .before .before .if2 .taken) in
-    full-answer t (a .out .now) _ (x .result) _ n (c .before .before .before .before .before .before .before .if1 .left) (renamed e (c .before .before .append .ensures))
+    whole-text t (a .out .now) _ (x .result) _ n (c .before .before .before .before .before .before .before .if1 .left) (renamed e (c .before .before .append .ensures))
 
 write-text-requires-2 : tie.Need-write-text-requires-2
 write-text-requires-2 c κs = search needs
@@ -63,10 +63,10 @@ returns-3 c =
     let f = c .before .before .before .before .before .before .before .before .before .affixes-of .ensures in
     let x = c .before .before .before .before .before .before .before .write-text in
     let w = rw f at (x .ensures) in
-    full-answer t (a .out .now) _ (x .result) _ (needed t _ _ (x .result) (s .pre) w) (c .before .before .before .before .before .if1 .left) (rw f at (c .before .before .write-text2 .ensures))
+    whole-text t (a .out .now) _ (x .result) _ (needed t _ _ (x .result) (s .pre) w) (c .before .before .before .before .before .if1 .left) (rw f at (c .before .before .write-text2 .ensures))
 
-pub print-digits-spec : {M : Type 1} → statement M
-print-digits-spec =
+pub write-digits-spec : {M : Type 1} → statement M
+write-digits-spec =
     tie.close
     (tie.spec
     affixes-of-requires
