@@ -61,7 +61,7 @@ fn print_text(house: &[u8], pattern: &[u8], p: Pattern, number: &[u8], out: &mut
     ensures { λ r. ⌜ r ≡ answerOf (afterNumber (now (house .entry)) (now (pattern .entry)) p (readNumber (now (number .entry)))) (now (out .entry)) ⌝ }
     ensures { λ _. ⌜ now (out .exit) ≡ areaOf (afterNumber (now (house .entry)) (now (pattern .entry)) p (readNumber (now (number .entry)))) (now (out .entry)) ⌝ }
 {
-    let reading = number::read_number(number);
+    let reading = number_text::read_number(number);
     match reading {
         Reading::Is(n) => print_number(house, pattern, p, n, out),
         Reading::Refused(r) => Printed::Refused(r),

@@ -130,7 +130,7 @@ pub extern "C" fn okw_read_number(number: &[u8], figures: &mut [u64; 8]) -> u32
     ensures { λ r. ⌜ r ≡ readCode (readNumber (now (number .entry))) ⌝ }
     ensures { λ _. ⌜ now (figures .exit) ≡ noted (readFigures (readNumber (now (number .entry)))) (now (figures .entry)) ⌝ }
 {
-    let reading = number::read_number(number);
+    let reading = number_text::read_number(number);
     match reading {
         Reading::Is(x) => note_number(figures, x),
         Reading::Refused(r) => note_refusal(figures, r),

@@ -65,7 +65,7 @@ fn select_read(pack: &[u8], reading: Reading) -> Selection
 pub fn select(pack: &[u8], number: &[u8]) -> Selection
     ensures { λ r. ⌜ r ≡ selectOf (now (pack .entry)) (now (number .entry)) ⌝ }
 {
-    let reading = number::read_number(number);
+    let reading = number_text::read_number(number);
     if pack_bare::is_bare(pack) {
         return select_bare(reading);
     }

@@ -1,9 +1,9 @@
--- `number::read_whole` answers what is read behind the sign.
+-- `number_text::read_whole` answers what is read behind the sign.
 use borrow.Author.Tests.{eq-eqb, ne-eqb}
 use Rattle.decimal.proofs.Runs.{of-run}
 use borrow.Author.Needs.{needs}
-use Rattle.number.proofs.read_whole.Statement.{statement}
-use Rattle.number.proofs.read_whole.Tie as tie
+use Rattle.number_text.proofs.read_whole.Statement.{statement}
+use Rattle.number_text.proofs.read_whole.Tie as tie
 use Rattle.decimal.specs.Digits.{isDigit}
 
 digit-run-requires : tie.Need-digit-run-requires

@@ -1,7 +1,7 @@
--- `number::marks_exponent` answers its definition: both tests.
+-- `number_text::marks_exponent` answers its definition: both tests.
 use borrow.Author.Needs.{needs}
-use Rattle.number.proofs.marks_exponent.Statement.{statement}
-use Rattle.number.proofs.marks_exponent.Tie as tie
+use Rattle.number_text.proofs.marks_exponent.Statement.{statement}
+use Rattle.number_text.proofs.marks_exponent.Tie as tie
 
 is-mark-requires : tie.Need-is-mark-requires
 is-mark-requires c κs = search needs

@@ -1,6 +1,6 @@
--- `number::is_lacking` answers its definition.
-use Rattle.number.proofs.is_lacking.Statement.{statement}
-use Rattle.number.proofs.is_lacking.Tie as tie
+-- `number_text::is_lacking` answers its definition.
+use Rattle.number_text.proofs.is_lacking.Statement.{statement}
+use Rattle.number_text.proofs.is_lacking.Tie as tie
 
 returns : tie.Need-returns
 returns c = rw (c .if1 .taken)

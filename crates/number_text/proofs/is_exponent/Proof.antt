@@ -1,12 +1,12 @@
--- `number::is_exponent` answers its definition, test by test.
+-- `number_text::is_exponent` answers its definition, test by test.
 use mathlib.Core.Path.{ap, sym}
 use Prim.Native.Nat.{ℕ}
 use lib.Dec.{eqb}
 use lib.ListN.{length}
 use borrow.Author.Tests.{eq-eqb, ne-eqb}
 use borrow.Author.Needs.{needs}
-use Rattle.number.proofs.is_exponent.Statement.{statement}
-use Rattle.number.proofs.is_exponent.Tie as tie
+use Rattle.number_text.proofs.is_exponent.Statement.{statement}
+use Rattle.number_text.proofs.is_exponent.Tie as tie
 
 returns : tie.Need-returns
 returns c = simp (eq-eqb _ _ (c .if1 .taken))

@@ -1,9 +1,9 @@
--- `number::read_number` answers `readNumber` for any bytes.
+-- `number_text::read_number` answers `readNumber` for any bytes.
 use borrow.Author.Tests.{lt-ltb, le-ltb}
-use Rattle.number.proofs.Cuts.{sign-cut}
+use Rattle.number_text.proofs.Cuts.{sign-cut}
 use borrow.Author.Needs.{needs}
-use Rattle.number.proofs.read_number.Statement.{statement}
-use Rattle.number.proofs.read_number.Tie as tie
+use Rattle.number_text.proofs.read_number.Statement.{statement}
+use Rattle.number_text.proofs.read_number.Tie as tie
 
 refuse-requires : tie.Need-refuse-requires
 refuse-requires c κs = search needs

@@ -1,9 +1,9 @@
--- `number::read_point` answers what is read behind the integer digits.
+-- `number_text::read_point` answers what is read behind the integer digits.
 use mathlib.Core.Path.{sym, _∙_}
-use Rattle.number.proofs.Cuts.{point-cut, point-digits}
+use Rattle.number_text.proofs.Cuts.{point-cut, point-digits}
 use borrow.Author.Needs.{needs}
-use Rattle.number.proofs.read_point.Statement.{statement}
-use Rattle.number.proofs.read_point.Tie as tie
+use Rattle.number_text.proofs.read_point.Statement.{statement}
+use Rattle.number_text.proofs.read_point.Tie as tie
 
 begins-with-requires : tie.Need-begins-with-requires
 begins-with-requires c κs = search needs

@@ -1,7 +1,7 @@
--- `number::is_mark` answers its definition, test by test.
+-- `number_text::is_mark` answers its definition, test by test.
 use borrow.Author.Tests.{eq-eqb, ne-eqb}
-use Rattle.number.proofs.is_mark.Statement.{statement}
-use Rattle.number.proofs.is_mark.Tie as tie
+use Rattle.number_text.proofs.is_mark.Statement.{statement}
+use Rattle.number_text.proofs.is_mark.Tie as tie
 
 returns : tie.Need-returns
 returns c = simp (eq-eqb _ _ (c .if1 .taken))

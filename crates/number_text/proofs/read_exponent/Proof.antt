@@ -1,9 +1,9 @@
--- `number::read_exponent` answers what is read behind the fraction.
+-- `number_text::read_exponent` answers what is read behind the fraction.
 use mathlib.Core.Path.{sym, _∙_}
-use Rattle.number.proofs.Cuts.{tail-cut}
+use Rattle.number_text.proofs.Cuts.{tail-cut}
 use borrow.Author.Needs.{needs}
-use Rattle.number.proofs.read_exponent.Statement.{statement}
-use Rattle.number.proofs.read_exponent.Tie as tie
+use Rattle.number_text.proofs.read_exponent.Statement.{statement}
+use Rattle.number_text.proofs.read_exponent.Tie as tie
 
 is-tail-requires : tie.Need-is-tail-requires
 is-tail-requires c κs = search needs

@@ -1,8 +1,8 @@
--- `number::is_tail` answers its definition.
+-- `number_text::is_tail` answers its definition.
 use borrow.Author.Tests.{eq-eqb, ne-eqb}
 use borrow.Author.Needs.{needs}
-use Rattle.number.proofs.is_tail.Statement.{statement}
-use Rattle.number.proofs.is_tail.Tie as tie
+use Rattle.number_text.proofs.is_tail.Statement.{statement}
+use Rattle.number_text.proofs.is_tail.Tie as tie
 
 returns : tie.Need-returns
 returns c = rw (eq-eqb _ _ (c .if1 .taken))
