@@ -157,8 +157,8 @@ fn print_answers(a: Answers) {
 
 fn print_refusal(r: Refusal) {
     print_text(b"!");
-    print_figure(wide(answer::number(r)));
-    let f = answer::figures(r);
+    print_figure(wide(answer_table::number(r)));
+    let f = answer_lists::figures(r);
     if 0 < f.count {
         print_figure(f.values[0]);
     }

@@ -33,7 +33,7 @@ fn append_reading(out: &mut [u8], at: usize, r: Reading) -> usize {
         Reading::Is(n) => append_number(out, at, n),
         Reading::Refused(refusal) => {
             let mark = area::put(out, at, 33);
-            append_operand(out, mark, wide(answer::number(refusal)))
+            append_operand(out, mark, wide(answer_table::number(refusal)))
         }
     }
 }

@@ -22,8 +22,8 @@ fn wide_byte(x: u8) -> u64 {
 
 fn print_refusal(r: Refusal) {
     io::write_all(STDOUT_FILENO, b"! ");
-    io::print_decimal(STDOUT_FILENO, wide_byte(answer::number(r)));
-    let f = answer::figures(r);
+    io::print_decimal(STDOUT_FILENO, wide_byte(answer_table::number(r)));
+    let f = answer_lists::figures(r);
     if 0 < f.count {
         io::write_all(STDOUT_FILENO, b" ");
         io::print_decimal(STDOUT_FILENO, f.values[0]);

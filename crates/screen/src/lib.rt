@@ -60,10 +60,10 @@ fn note_refusal(figures: &mut [u64; 8], refusal: Refusal) -> u32
     ensures { λ r. ⌜ r ≡ numberOf refusal ⌝ }
     ensures { λ _. ⌜ now (figures .exit) ≡ noted (figuresOf refusal) (now (figures .entry)) ⌝ }
 {
-    let list = answer::figures(refusal);
+    let list = answer_lists::figures(refusal);
     let values = list.values;
     note(figures, &values, list.count);
-    answer::number(refusal) as u32
+    answer_table::number(refusal) as u32
 }
 
 fn sign_of(negative: bool) -> u64

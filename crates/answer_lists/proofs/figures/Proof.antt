@@ -1,7 +1,7 @@
--- `answer::figures` answers its definition, case by case.
+-- `answer_lists::figures` answers its definition, case by case.
 use borrow.Author.Needs.{needs}
-use Rattle.answer.proofs.figures.Statement.{statement}
-use Rattle.answer.proofs.figures.Tie as tie
+use Rattle.answer_lists.proofs.figures.Statement.{statement}
+use Rattle.answer_lists.proofs.figures.Tie as tie
 
 enum-told : tie.Need-enum-told
 enum-told c = search needs

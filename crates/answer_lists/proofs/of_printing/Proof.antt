@@ -1,7 +1,7 @@
--- `answer::of_printing` answers its definition, case by case.
+-- `answer_lists::of_printing` answers its definition, case by case.
 use borrow.Author.Needs.{needs}
-use Rattle.answer.proofs.of_printing.Statement.{statement}
-use Rattle.answer.proofs.of_printing.Tie as tie
+use Rattle.answer_lists.proofs.of_printing.Statement.{statement}
+use Rattle.answer_lists.proofs.of_printing.Tie as tie
 
 enum-told : tie.Need-enum-told
 enum-told c = search needs

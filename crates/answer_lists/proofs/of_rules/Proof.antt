@@ -1,7 +1,7 @@
--- `answer::of_rules` answers its definition, case by case.
+-- `answer_lists::of_rules` answers its definition, case by case.
 use borrow.Author.Needs.{needs}
-use Rattle.answer.proofs.of_rules.Statement.{statement}
-use Rattle.answer.proofs.of_rules.Tie as tie
+use Rattle.answer_lists.proofs.of_rules.Statement.{statement}
+use Rattle.answer_lists.proofs.of_rules.Tie as tie
 
 enum-known-r : tie.Need-enum-known-r
 enum-known-r c = search needs

@@ -1,54 +1,42 @@
 use borrow.Author.Needs.{needs}
-use Rattle.answer.proofs.word.Statement.{statement}
-use Rattle.answer.proofs.word.Tie as tie
-use Rattle.answer.proofs.word.Reads as reads
-use Rattle.answer.proofs.word.Lts as lts
+use Rattle.answer_lists.proofs.word.Statement.{statement}
+use Rattle.answer_lists.proofs.word.Tie as tie
+use Rattle.answer_lists.proofs.word.Reads as reads
+use Rattle.answer_lists.proofs.word.Lts as lts
 
--- src/lib.rt:244:22
 enum-told : tie.Need-enum-told
 enum-told c = search needs
 
--- src/lib.rt:248:22
 enum-told-2 : tie.Need-enum-told-2
 enum-told-2 c = search needs
 
--- src/lib.rt:252:22
 enum-told-3 : tie.Need-enum-told-3
 enum-told-3 c = search needs
 
--- src/lib.rt:256:22
 enum-told-4 : tie.Need-enum-told-4
 enum-told-4 c = search needs
 
--- src/lib.rt:260:22
 enum-told-5 : tie.Need-enum-told-5
 enum-told-5 c = search needs
 
--- src/lib.rt:264:22
 enum-told-6 : tie.Need-enum-told-6
 enum-told-6 c = search needs
 
--- src/lib.rt:238:1
 returns : tie.Need-returns
 returns c = rw (c .enum-told .given .1)
 
--- src/lib.rt:238:1
 returns-2 : tie.Need-returns-2
 returns-2 c = rw (c .enum-told2 .given .1)
 
--- src/lib.rt:238:1
 returns-3 : tie.Need-returns-3
 returns-3 c = rw (c .enum-told3 .given .1)
 
--- src/lib.rt:238:1
 returns-4 : tie.Need-returns-4
 returns-4 c = rw (c .enum-told4 .given .1)
 
--- src/lib.rt:238:1
 returns-5 : tie.Need-returns-5
 returns-5 c = rw (c .enum-told5 .given .1)
 
--- src/lib.rt:238:1
 returns-6 : tie.Need-returns-6
 returns-6 c = rw (c .enum-told6 .given .1)
 
