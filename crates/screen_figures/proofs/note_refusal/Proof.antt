@@ -1,10 +1,10 @@
--- `screen::note_refusal` stores the figures of the table.
+-- `screen_figures::note_refusal` stores the figures of the table.
 use mathlib.Core.Path.{refl, ap, _∙_}
 use Rattle.answer.proofs.Lists.{figures-told}
-use Rattle.screen.specs.Entries.{noted}
+use Rattle.screen_figures.specs.Figures.{noted}
 use borrow.Author.Needs.{needs}
-use Rattle.screen.proofs.note_refusal.Statement.{statement}
-use Rattle.screen.proofs.note_refusal.Tie as tie
+use Rattle.screen_figures.proofs.note_refusal.Statement.{statement}
+use Rattle.screen_figures.proofs.note_refusal.Tie as tie
 
 figures-requires : tie.Need-figures-requires
 figures-requires c κs = search needs

@@ -10,7 +10,7 @@ use lib.Dec.{ltb}
 use borrow.Author.Tests.{ltb-true, ltb-false}
 use lib.Seq.{sets, sets-eq, drop-cons, take-all}
 use Rattle.decimal.proofs.Choices.{tested}
-use Rattle.screen.specs.Entries.{noted}
+use Rattle.screen_figures.specs.Figures.{noted}
 
 -- one more of the values is stored
 pub again : (o values : List ℕ) (n k : ℕ) → k < n → n ≤ length values
@@ -45,9 +45,7 @@ pub noted-front : (figures before : List ℕ) → length before ≡ 8 → length
     → noted figures before ≡ (length figures ∷ figures) ++ drop (length (length figures ∷ figures)) before
 noted-front figures before h l = sets-eq (length figures ∷ figures) before 0 (omega arith) ∙ rw zero-add
 
--- An entry whose job answers x: the code and the figures of the case that the answer is are those of x.
-pub told : {A : Type 0} (code : A → ℕ) (figures : A → List ℕ) (x r q : A) (c : ℕ) (fs before : List ℕ) → r ≡ x → r ≡ q → c ≡ code q → fs ≡ noted (figures q) before
+-- An answer r that is x: the code and the figures of r are those of x.
+pub told : {A : Type 0} (code : A → ℕ) (figures : A → List ℕ) (r x : A) (c : ℕ) (fs before : List ℕ) → r ≡ x → c ≡ code r → fs ≡ noted (figures r) before
     → (c ≡ code x) × (fs ≡ noted (figures x) before)
-told code figures x r q c fs before e g k h =
-    let w = sym g ∙ e in
-    (k ∙ ap code w, h ∙ ap (λ y. noted (figures y) before) w)
+told code figures r x c fs before e k h = (k ∙ ap code e, h ∙ ap (λ y. noted (figures y) before) e)

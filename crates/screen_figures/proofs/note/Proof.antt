@@ -1,11 +1,11 @@
--- `screen::note` stores the count and the values.
+-- `screen_figures::note` stores the count and the values.
 use mathlib.Core.Path.{_∙_, ap}
 use lib.Seq.{sets}
 use lib.ListN.{take}
-use Rattle.screen.proofs.Noted.{stored}
+use Rattle.screen_figures.proofs.Noted.{stored}
 use borrow.Author.Needs.{needs}
-use Rattle.screen.proofs.note.Statement.{statement}
-use Rattle.screen.proofs.note.Tie as tie
+use Rattle.screen_figures.proofs.note.Statement.{statement}
+use Rattle.screen_figures.proofs.note.Tie as tie
 
 fewer-requires : tie.Need-fewer-requires
 fewer-requires c κs = search needs

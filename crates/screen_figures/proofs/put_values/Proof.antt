@@ -1,4 +1,4 @@
--- `screen::put_values` stores the values one by one. The invariant: what is left to store, stored from the place reached on, gives what the whole gives.
+-- `screen_figures::put_values` stores the values one by one. The invariant: what is left to store, stored from the place reached on, gives what the whole gives.
 use native.Mathlib.Omega.{arith}
 use mathlib.Core.Path.{_≡_, refl, sym, _∙_}
 use Prim.Native.Nat.{ℕ, _≤_, _-_, _+_}
@@ -6,9 +6,9 @@ use native.Mathlib.Nat.{sub-zero}
 use lib.ListN.{length, take, drop, set, length-set}
 use lib.Seq.{sets}
 use borrow.Author.Needs.{needs}
-use Rattle.screen.proofs.Noted.{again, done}
-use Rattle.screen.proofs.put_values.Statement.{statement}
-use Rattle.screen.proofs.put_values.Tie as tie
+use Rattle.screen_figures.proofs.Noted.{again, done}
+use Rattle.screen_figures.proofs.put_values.Statement.{statement}
+use Rattle.screen_figures.proofs.put_values.Tie as tie
 
 abbrev Inv-loop : tie.InvT-loop
 Inv-loop figures₀ values n k₀ figures k =

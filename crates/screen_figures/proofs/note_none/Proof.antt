@@ -1,9 +1,9 @@
--- `screen::note_none` stores the count 0.
+-- `screen_figures::note_none` stores the count 0.
 use mathlib.Core.Path.{refl, ap, _∙_}
-use Rattle.screen.specs.Entries.{noted}
+use Rattle.screen_figures.specs.Figures.{noted}
 use borrow.Author.Needs.{needs}
-use Rattle.screen.proofs.note_none.Statement.{statement}
-use Rattle.screen.proofs.note_none.Tie as tie
+use Rattle.screen_figures.proofs.note_none.Statement.{statement}
+use Rattle.screen_figures.proofs.note_none.Tie as tie
 
 slice-aggregate-note : tie.Need-slice-aggregate-note
 slice-aggregate-note c = search needs

@@ -1,9 +1,9 @@
--- `screen::note_number` stores the seven operands.
+-- `screen_figures::note_number` stores the seven operands.
 use mathlib.Core.Path.{refl, ap, _∙_}
-use Rattle.screen.specs.Entries.{noted}
+use Rattle.screen_figures.specs.Figures.{noted}
 use borrow.Author.Needs.{needs}
-use Rattle.screen.proofs.note_number.Statement.{statement}
-use Rattle.screen.proofs.note_number.Tie as tie
+use Rattle.screen_figures.proofs.note_number.Statement.{statement}
+use Rattle.screen_figures.proofs.note_number.Tie as tie
 
 sign-of-requires : tie.Need-sign-of-requires
 sign-of-requires c κs = search needs

@@ -1,9 +1,9 @@
--- `screen::note_one` stores the count 1 and the figure.
+-- `screen_figures::note_one` stores the count 1 and the figure.
 use mathlib.Core.Path.{refl, ap, _∙_}
-use Rattle.screen.specs.Entries.{noted}
+use Rattle.screen_figures.specs.Figures.{noted}
 use borrow.Author.Needs.{needs}
-use Rattle.screen.proofs.note_one.Statement.{statement}
-use Rattle.screen.proofs.note_one.Tie as tie
+use Rattle.screen_figures.proofs.note_one.Statement.{statement}
+use Rattle.screen_figures.proofs.note_one.Tie as tie
 
 slice-aggregate-note : tie.Need-slice-aggregate-note
 slice-aggregate-note c = search needs

@@ -1,9 +1,9 @@
--- `screen::put` sets the figure where the area has that place, and nothing where it has not.
+-- `screen_figures::put` sets the figure where the area has that place, and nothing where it has not.
 use mathlib.Core.Path.{sym}
 use lib.Seq.{set-out}
 use borrow.Author.Needs.{needs}
-use Rattle.screen.proofs.put.Statement.{statement}
-use Rattle.screen.proofs.put.Tie as tie
+use Rattle.screen_figures.proofs.put.Statement.{statement}
+use Rattle.screen_figures.proofs.put.Tie as tie
 
 mul-figures : tie.Need-mul-figures
 mul-figures c = search needs
