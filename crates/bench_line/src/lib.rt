@@ -62,8 +62,8 @@ fn append_refusal(out: &mut [u8], at: usize, letter: u8, refusal: Refusal) -> us
 {
     let name = area::put(out, at, letter);
     let mark = area::put(out, name, 33);
-    let number = append_spaced(out, mark, wide_byte(answer::number(refusal)));
-    let figures = append_figures(out, number, answer::figures(refusal));
+    let number = append_spaced(out, mark, wide_byte(answer_table::number(refusal)));
+    let figures = append_figures(out, number, answer_lists::figures(refusal));
     area::put(out, figures, 10)
 }
 
@@ -71,7 +71,7 @@ fn append_refusal(out: &mut [u8], at: usize, letter: u8, refusal: Refusal) -> us
 fn append_word(out: &mut [u8], at: usize, k: Keyword) -> usize
     ensures { λ r. ⌜ Wrote (now (out .entry)) at (wordText k) (now (out .exit)) r ⌝ }
 {
-    let word = answer::word(k);
+    let word = answer_lists::word(k);
     let letters = word.letters;
     let name = area::append(out, at, b"s ");
     let end = area::append(out, name, decimal::cut::upto(&letters, word.len));

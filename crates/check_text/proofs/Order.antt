@@ -11,8 +11,8 @@ use Rattle.pack_grammar.specs.Reader.PackAnswer.{Rules, Refused as PackRefused}
 use Rattle.pack_bare.specs.Bare.{isBare, bareRule}
 use Rattle.pack_bare.proofs.Bares.{bare-read}
 use Rattle.pack_reader.specs.Answer.{readOf, rulesOf}
-use Rattle.pack_reader.specs.declared.Read.{Read}
-use Rattle.pack_reader.specs.declared.Read.the-variants.{Rules as Counted, Refused as Bad}
+use Rattle.pack_verdict.specs.declared.Read.{Read}
+use Rattle.pack_verdict.specs.declared.Read.the-variants.{Rules as Counted, Refused as Bad}
 use Rattle.check_laws.specs.Check.{against, firstPair, checkOf}
 use Rattle.check_laws.specs.declared.Checked.the-variants.{Passes as RulesPass}
 use Rattle.check_text.specs.Check.{checkedBy, checkRules, checkPack}

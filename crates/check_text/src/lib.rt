@@ -5,12 +5,12 @@ ghost use Rattle.check_text.specs.Check.{checkedBy, checkPack};
 use answer::Refusal;
 use answer::RulesRow;
 use check_laws::Checked;
-use pack_reader::Read;
 use pack_rules::ClauseEnds;
 use pack_rules::Columns;
 use pack_rules::Keywords;
 use pack_rules::RangeEnds;
 use pack_rules::RuleEnds;
+use pack_verdict::Read;
 
 pub enum PackCheck {
     Passes,

@@ -48,8 +48,8 @@ use Rattle.print.specs.declared.Printed.{Printed}
 use Rattle.print.specs.declared.Printed.the-variants.{Text, Refused as PrintRefused}
 use Rattle.print.specs.Outcome.{outcome, answerOf, areaOf}
 use Rattle.print_grammar.proofs.Theorems.{area-kept}
-use Rattle.screen.specs.Entries.{noted, operandsOf, wordNumber, readCode, readFigures, selectCode, selectFigures, checkCode, checkFigures, printCode, printFigures}
-use Rattle.screen.proofs.Noted.{noted-front}
+use Rattle.screen_figures.specs.Figures.{noted, operandsOf, wordNumber, readCode, readFigures, selectCode, selectFigures, checkCode, checkFigures, printCode, printFigures}
+use Rattle.screen_figures.proofs.Noted.{noted-front}
 use Rattle.demands.specs.Verdicts.{NumberVerdict, PackVerdict, SelectVerdict, CheckVerdict, PrintVerdict}
 use Rattle.demands.specs.Verdicts.NumberVerdict.{row, read}
 use Rattle.demands.specs.Verdicts.PackVerdict.{too-long, not-a-pack, faulty, read as read-pack}

@@ -12,12 +12,12 @@ use answer::Witness;
 use check_laws::Checked;
 use libc::STDIN_FILENO;
 use libc::STDOUT_FILENO;
-use pack_reader::Read;
 use pack_rules::ClauseEnds;
 use pack_rules::Columns;
 use pack_rules::Keywords;
 use pack_rules::RangeEnds;
 use pack_rules::RuleEnds;
+use pack_verdict::Read;
 
 // What the two engines answer for one pack.
 pub struct Answers {
@@ -157,8 +157,8 @@ fn print_answers(a: Answers) {
 
 fn print_refusal(r: Refusal) {
     print_text(b"!");
-    print_figure(wide(answer::number(r)));
-    let f = answer::figures(r);
+    print_figure(wide(answer_table::number(r)));
+    let f = answer_lists::figures(r);
     if 0 < f.count {
         print_figure(f.values[0]);
     }

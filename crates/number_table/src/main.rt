@@ -33,7 +33,7 @@ fn append_reading(out: &mut [u8], at: usize, r: Reading) -> usize {
         Reading::Is(n) => append_number(out, at, n),
         Reading::Refused(refusal) => {
             let mark = area::put(out, at, 33);
-            append_operand(out, mark, wide(answer::number(refusal)))
+            append_operand(out, mark, wide(answer_table::number(refusal)))
         }
     }
 }
@@ -45,7 +45,11 @@ fn append_all(out: &mut [u8], input: &[u8]) -> usize {
     while from < input.len() {
         let rest = decimal::cut::after(input, from);
         let n = decimal::scan::run_until(rest, 10);
-        let end = append_reading(out, used, number::read_number(decimal::cut::upto(rest, n)));
+        let end = append_reading(
+            out,
+            used,
+            number_text::read_number(decimal::cut::upto(rest, n)),
+        );
         used = area::put(out, end, 10);
         from = line::next_line(from, n, input.len());
     }

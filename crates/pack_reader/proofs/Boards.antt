@@ -17,7 +17,8 @@ use Rattle.pack_grammar.specs.Grammar.{Text}
 use Rattle.pack_walk.specs.Steps.{stepAfter}
 use Rattle.pack_walk.specs.declared.Walk.{Walk}
 use Rattle.pack_walk.specs.declared.Step.{Step}
-use Rattle.pack_reader.specs.Board.{Arrays, arraysOf, setIf, setRowIf, rowFor, filled, Board, tokenAt, boardAfter, boards, startWalk, within4096}
+use Rattle.pack_columns.specs.Stored.{setIf, setRowIf, rowFor}
+use Rattle.pack_reader.specs.Board.{Arrays, arraysOf, filled, Board, tokenAt, boardAfter, boards, startWalk, within4096}
 
 -- ---- one piece more
 

@@ -25,11 +25,11 @@ use Rattle.pack_phase.specs.Next.{samePhase}
 use Rattle.pack_phase.specs.declared.Phase.{Phase}
 use Rattle.pack_phase.specs.declared.Phase.the-variants.{Value}
 use Rattle.pack_phase.proofs.Phases.{phaseOf}
-use Rattle.pack_walk.specs.Steps.{moreIf}
 use Rattle.pack_grammar.proofs.Exact.{ended}
 use Rattle.pack_grammar.proofs.Whole.{faults, faultOn, whole-clean}
 use Rattle.pack_grammar.proofs.Table.{long-other, long-rules, told-read}
-use Rattle.pack_walk.specs.declared.Counts.{Counts}
+use Rattle.pack_counts.specs.Counts.{moreIf}
+use Rattle.pack_counts.specs.declared.Counts.{Counts}
 use Rattle.pack_walk.specs.declared.Current.{Current}
 use Rattle.pack_reader.specs.Board.{Arrays, arraysOf, Sized, boards, startWalk, lastBoard}
 use Rattle.pack_reader.specs.Bounds.{flat, conditioned, clausesOf, relationsOf, rangesOf, Bounds}

@@ -7,15 +7,16 @@ use native.Mathlib.Omega.{arith}
 use native.Mathlib.Numerals.{add-one}
 use lib.Dec.{eqb}
 use lib.ListN.{length, take, drop, set, length-append, length-set}
-use lib.Seq.{set-out, take-suc-set, take-set-lt, length-take-le, set-append-seam, take-at, drop-at}
+use lib.Seq.{take-suc-set, take-set-lt, length-take-le, set-append-seam, take-at, drop-at}
 use borrow.Author.Tests.{lt-ltb}
 use Rattle.answer.specs.declared.Keyword.{Keyword}
 use Rattle.pack_rules.specs.Syntax.{Range, Relation, Rule}
 use Rattle.pack_rules.specs.Held.{Row, rowsOf, rowEnds, parts, keywordOf, rangesFrom, relationsFrom, rulesFrom, heldRelations, heldRules}
 use Rattle.pack_grammar.specs.Limits.{maxBytes}
-use Rattle.pack_walk.specs.Steps.{moreOf}
+use Rattle.pack_counts.specs.Counts.{moreOf}
+use Rattle.pack_columns.specs.Stored.{setRow, codeOf}
 use Rattle.pack_reader.specs.Bounds.{flat}
-use Rattle.pack_reader.specs.Board.{Arrays, setRow, codeOf, packOf}
+use Rattle.pack_reader.specs.Board.{Arrays, packOf}
 
 pub more-is : (n : ℕ) → n < maxBytes → moreOf n ≡ suc n
 more-is n h = rw (lt-ltb n maxBytes h, add-one n)
@@ -160,11 +161,6 @@ rows-set (suc n) (o ∷ m ∷ c ∷ e ∷ a) w =
 
 pub length-row : (a : List ℕ) (n : ℕ) (w : Row) → length (setRow a n w) ≡ length a
 length-row a n w = simp length-set
-
--- past the end there is nothing to store into
-pub row-out : (a : List ℕ) (n : ℕ) (w : Row) → length a ≡ 1280 → 320 ≤ n → setRow a n w ≡ a
-row-out a n w l h =
-    rw (set-out a (4 * n) (w .operand) (omega arith), set-out a (4 * n + 1) (w .modulus) (omega arith), set-out a (4 * n + 2) (w .comparison) (omega arith), set-out a (4 * n + 3) (w .end) (omega arith))
 
 pub rows-length : (n : ℕ) (a : List ℕ) → length a ≡ 4 * n → length (rowsOf a) ≡ n
 rows-length zero [] h = refl

@@ -19,11 +19,13 @@ use Rattle.pack_grammar.specs.RuleOf.{rangeOf, relationOf, clauseOf, ruleOf, ke
 use Rattle.pack_grammar.specs.Steps.{Front, State}
 use Rattle.pack_grammar.specs.Steps.State.{WantsName, WantsColon, WantsNothing, WantsOperand, HasOperand, WantsModulus, HasModulus, WantsValue, HasValue, WantsUpper, HasUpper, Dead}
 use Rattle.pack_grammar.proofs.Whole.{names, names-snoc}
-use Rattle.pack_walk.specs.Steps.{keywordNumber, held, moreOf, countsAfter}
-use Rattle.pack_walk.specs.declared.Closes.{Closes}
-use Rattle.pack_walk.specs.declared.Counts.{Counts}
+use Rattle.pack_counts.specs.Counts.{moreOf, countsAfter}
+use Rattle.pack_counts.specs.declared.Closes.{Closes}
+use Rattle.pack_counts.specs.declared.Counts.{Counts}
+use Rattle.pack_faults.specs.Faults.{keywordNumber, held}
 use Rattle.pack_walk.specs.declared.Current.{Current}
-use Rattle.pack_reader.specs.Board.{Arrays, Sized, setRow, codeOf, rowFor, filled}
+use Rattle.pack_columns.specs.Stored.{setRow, codeOf, rowFor}
+use Rattle.pack_reader.specs.Board.{Arrays, Sized, filled}
 use Rattle.pack_reader.specs.Bounds.{flat}
 use Rattle.pack_reader.proofs.Flats.{more-is, flat-snoc, map-snoc, length-row, Ranges, Relations, Clauses, Rules}
 use Rattle.pack_reader.proofs.Levels.{ranges-more, ranges-last, relations-more, clauses-more, rules-more}

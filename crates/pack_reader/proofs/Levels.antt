@@ -7,9 +7,9 @@ use lib.ListN.{length, take, set, length-append}
 use Rattle.pack_rules.specs.Syntax.{Range, Relation, Rule}
 use Rattle.pack_rules.specs.Held.{Row, rowsOf}
 use Rattle.pack_grammar.specs.Limits.{maxBytes}
-use Rattle.pack_walk.specs.Steps.{moreOf}
+use Rattle.pack_counts.specs.Counts.{moreOf}
+use Rattle.pack_columns.specs.Stored.{setRow}
 use Rattle.pack_reader.specs.Bounds.{flat}
-use Rattle.pack_reader.specs.Board.{setRow}
 use Rattle.pack_reader.proofs.Flats.{more-is, map-snoc, endsOf, ends-snoc, fill-more, fill-last, rowWith, rowsFor, rows-snoc, rows-set, rows-length, Ranges, Relations, Clauses, Rules}
 
 one-more : {A : Type 0} (n : ℕ) (xs : List A) (x : A) → n < maxBytes → n ≡ length xs → moreOf n ≡ length (xs ++ (x ∷ []))

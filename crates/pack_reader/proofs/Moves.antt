@@ -29,8 +29,10 @@ use Rattle.pack_phase.specs.Next.{samePhase}
 use Rattle.pack_phase.specs.declared.Phase.{Phase}
 use Rattle.pack_phase.specs.declared.Phase.the-variants.{Name, Colon, Nothing, Operand, ModulusOrSign, Modulus, Sign, Value, DotsOrMore, Upper, More, Dead}
 use Rattle.pack_phase.proofs.Phases.{phaseOf}
-use Rattle.pack_walk.specs.Steps.{capped, valueAt, held, closesAt, countsAfter, keyAfter, currentAfter, rowAt, moreOf, keywordNumber, nameRow, upperRow}
-use Rattle.pack_walk.specs.declared.Counts.{Counts}
+use Rattle.pack_counts.specs.Counts.{countsAfter, moreOf}
+use Rattle.pack_counts.specs.declared.Counts.{Counts}
+use Rattle.pack_faults.specs.Faults.{capped, held, keywordNumber, nameRow, upperRow}
+use Rattle.pack_walk.specs.Steps.{valueAt, closesAt, keyAfter, currentAfter, rowAt}
 use Rattle.pack_walk.specs.declared.Current.{Current}
 use Rattle.pack_reader.specs.Board.{Arrays, filled}
 use Rattle.pack_reader.proofs.Flats.{more-is}

@@ -35,15 +35,16 @@ use Rattle.pack_phase.specs.Next.{nextPhase, samePhase}
 use Rattle.pack_phase.specs.declared.Phase.{Phase}
 use Rattle.pack_phase.specs.declared.Phase.the-variants.{Name, Dead}
 use Rattle.pack_phase.proofs.Phases.{phaseOf, Flag, phase-on}
+use Rattle.pack_counts.specs.declared.Counts.{Counts}
+use Rattle.pack_faults.specs.declared.Mark.{Mark}
 use Rattle.pack_walk.specs.Steps.{stopAfter}
-use Rattle.pack_walk.specs.declared.Counts.{Counts}
 use Rattle.pack_walk.specs.declared.Current.{Current}
-use Rattle.pack_walk.specs.declared.Mark.{Mark}
 use Rattle.pack_walk.specs.declared.Walk.{Walk}
+use Rattle.pack_verdict.specs.Verdict.{readBy, judged, judgedAll}
+use Rattle.pack_verdict.specs.declared.Read.{Read as Returned}
+use Rattle.pack_verdict.specs.declared.Read.the-variants.{Rules as Counted}
 use Rattle.pack_reader.specs.Answer.{readOf, rulesOf, countIn, ReadAs}
-use Rattle.pack_reader.specs.Board.{Arrays, Sized, Board, boardAfter, boards, startWalk, within4096, readBy, judged, judgedAll, lastBoard, packOf}
-use Rattle.pack_reader.specs.declared.Read.{Read as Returned}
-use Rattle.pack_reader.specs.declared.Read.the-variants.{Rules as Counted}
+use Rattle.pack_reader.specs.Board.{Arrays, Sized, Board, boardAfter, boards, startWalk, within4096, lastBoard, packOf}
 use Rattle.pack_reader.specs.Bounds.{flat}
 use Rattle.pack_reader.proofs.Flats.{held-back}
 use Rattle.pack_reader.proofs.Tally.{no-tally}

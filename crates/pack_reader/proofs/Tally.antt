@@ -17,7 +17,7 @@ use Rattle.pack_token.proofs.Spellings.{same-eq, same-refl}
 use Rattle.pack_grammar.specs.Grammar.{Text, other}
 use Rattle.pack_grammar.specs.Limits.{keywords}
 use Rattle.pack_grammar.specs.RuleOf.{keywordOf as keywordNamed}
-use Rattle.pack_walk.specs.Steps.{keywordNumber, held, nameRow}
+use Rattle.pack_faults.specs.Faults.{keywordNumber, held, nameRow}
 
 -- how often a number stands in a list
 abbrev bit : Bool → ℕ

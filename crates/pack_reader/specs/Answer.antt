@@ -7,8 +7,8 @@ use Rattle.pack_rules.specs.Syntax.{Rule}
 use Rattle.pack_rules.specs.Held.{Pack, heldRules}
 use Rattle.pack_grammar.specs.Reader.{PackAnswer}
 use Rattle.pack_grammar.specs.Reader.PackAnswer.{Rules, Refused}
-use Rattle.pack_reader.specs.declared.Read.{Read}
-use Rattle.pack_reader.specs.declared.Read.the-variants.{Rules as Counted, Refused as Bad}
+use Rattle.pack_verdict.specs.declared.Read.{Read}
+use Rattle.pack_verdict.specs.declared.Read.the-variants.{Rules as Counted, Refused as Bad}
 
 abbrev pub readOf : PackAnswer → Read
 readOf (Rules rs) = Counted (length rs)

@@ -1,29 +1,23 @@
--- The arrays of a pack while it is read, and how a token changes them; the answer at the pack's end. A relation, a clause and a rule are stored when
--- the token behind them closes them.
+-- The arrays of a pack while it is read, and how a token changes them. A relation, a clause and a rule are stored when the token behind them closes them.
 use mathlib.Core.Path.{_≡_}
 use mathlib.Core.Bool.{Bool, false}
 use mathlib.Core.List.{List, [], _∷_}
-use Prim.Native.Nat.{ℕ, _+_, _*_, _-_, min}
-use lib.Dec.{eqb, ltb}
-use lib.ListN.{length, take, drop, set}
+use Prim.Native.Nat.{ℕ, _*_, _-_}
+use lib.Dec.{ltb}
+use lib.ListN.{length, take, drop}
 use Rattle.decimal.specs.Choice.{if_then_else_}
-use Rattle.answer.specs.declared.PackRow.the-variants.{NotAPack}
-use Rattle.answer.specs.declared.Refusal.the-variants.{PackTooLong, Pack as OfPack}
 use Rattle.pack_rules.specs.Room.{rangeRoom, relationRoom, clauseRoom, ruleRoom}
-use Rattle.pack_rules.specs.Held.{Pack, Row, lent}
+use Rattle.pack_rules.specs.Held.{Pack, lent}
 use Rattle.pack_token.specs.Token.{Token, tokens}
 use Rattle.pack_grammar.specs.Limits.{maxBytes}
 use Rattle.pack_grammar.specs.Grammar.{Text, semi}
-use Rattle.pack_grammar.specs.Reader.{rowOf}
-use Rattle.pack_phase.specs.Next.{samePhase}
 use Rattle.pack_phase.specs.declared.Phase.the-variants.{Name}
+use Rattle.pack_counts.specs.declared.Counts.{Counts}
+use Rattle.pack_counts.specs.declared.Closes.{Closes}
 use Rattle.pack_walk.specs.Steps.{stepAfter}
-use Rattle.pack_walk.specs.declared.Counts.{Counts}
-use Rattle.pack_walk.specs.declared.Closes.{Closes}
 use Rattle.pack_walk.specs.declared.Current.{Current}
 use Rattle.pack_walk.specs.declared.Walk.{Walk}
-use Rattle.pack_reader.specs.declared.Read.{Read}
-use Rattle.pack_reader.specs.declared.Read.the-variants.{Rules, Refused}
+use Rattle.pack_columns.specs.Stored.{setIf, setRowIf, rowFor}
 
 -- ---- the arrays
 
@@ -45,23 +39,6 @@ arraysOf low high columns relations keyword clauses =
       keyword = keyword;
       clauses = clauses;
     }
-
-abbrev pub setIf : {A : Type 0} → Bool → List A → ℕ → A → List A
-setIf b a n v = if b then set a n v else a
-
--- the row n, four numbers one behind the other
-abbrev pub setRow : List ℕ → ℕ → Row → List ℕ
-setRow a n w = set (set (set (set a (4 * n) (w .operand)) (4 * n + 1) (w .modulus)) (4 * n + 2) (w .comparison)) (4 * n + 3) (w .end)
-
-abbrev pub setRowIf : Bool → List ℕ → ℕ → Row → List ℕ
-setRowIf b a n w = if b then setRow a n w else a
-
-abbrev pub codeOf : Bool → ℕ
-codeOf negated = if negated then 1 else 0
-
--- the row of the relation that is being read, whose ranges end at this place
-abbrev pub rowFor : Current → ℕ → Row
-rowFor o end = record { operand = o .operand; modulus = o .modulus; comparison = codeOf (o .negated); end = min end 4294967295 }
 
 -- for a token that starts a range or ends one, has this value and closes so much; c and d: the counts before and behind the token
 abbrev pub filled : Bool → Bool → ℕ → Closes → Counts → Counts → Current → Arrays → Arrays
@@ -112,21 +89,6 @@ tokenAt s end at m = if ltb at (length s) then take m (drop at s) else end
 -- a text, or nothing of it where it is too long
 abbrev pub within4096 : Text → Text
 within4096 s = if ltb maxBytes (length s) then [] else s
-
--- ---- at the pack's end, behind a last `;`: a rule has been closed there, or nothing could follow
-
--- by the row and place of a fault: n rules where there is none
-abbrev pub readBy : ℕ → ℕ → ℕ → Read
-readBy row place n = if eqb row 0 then Rules n else Refused (OfPack (rowOf row) (record { 0 = place }))
-
-abbrev pub judged : Walk → Read
-judged w =
-    if samePhase (w .phase) Name then readBy (w .mark .row) (w .mark .place) (w .counts .rules) else
-    Refused (OfPack NotAPack (record { 0 = w .mark .stop }))
-
--- the answer to a pack of n bytes
-abbrev pub judgedAll : ℕ → Walk → Read
-judgedAll n w = if ltb maxBytes n then Refused PackTooLong else judged w
 
 -- ---- the whole pack
 

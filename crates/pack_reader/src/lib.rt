@@ -1,120 +1,39 @@
 // Reads a rule pack: its rules into flat arrays, or refusal 20 to 26 with its place.
 //
 // `read_pack` goes once over the bytes, token by token: the walk says what may follow (21) and finds
-// 22 to 26; each relation, clause and rule is stored when the token behind it closes it.
-// specs/Board.antt says how a token changes the arrays. They are the caller's, some 22 KB, and are
-// lent: returned by value they would be copied, which costs what reading a small pack does.
+// 22 to 26; each relation, clause and rule is stored when the token behind it closes it. Crate
+// pack_columns has the stores, crate pack_verdict the answer at the end. specs/Board.antt says how a
+// token changes the arrays. They are the caller's, some 22 KB, and are lent: returned by value they
+// would be copied, which costs what reading a small pack does.
 ghost use mathlib.Core.Path.{_≡_};
-ghost use Prim.Native.Nat.{_-_, min};
-ghost use Rattle.pack_grammar.specs.Reader.{rowOf, readPack};
+ghost use Rattle.pack_grammar.specs.Reader.{readPack};
 ghost use Rattle.pack_rules.specs.Held.{lent};
 ghost use Rattle.pack_reader.specs.Answer.{countIn, ReadAs};
-ghost use Rattle.pack_reader.specs.Board.{setIf, setRowIf, codeOf, rowFor, tokenAt, startWalk, within4096, readBy, judged, judgedAll};
-use answer::PackRow;
-use answer::Place;
-use answer::Refusal;
+ghost use Rattle.pack_reader.specs.Board.{tokenAt, startWalk, within4096};
 use decimal::cut::after;
 use decimal::cut::upto;
+use pack_columns::less_one;
+use pack_columns::put_bytes;
+use pack_columns::put_places;
+use pack_columns::put_row;
+use pack_columns::put_values;
+use pack_counts::Counts;
+use pack_faults::Mark;
 use pack_grammar::MAX_BYTES;
 use pack_phase::Phase;
-use pack_phase::same_phase;
 use pack_rules::ClauseEnds;
 use pack_rules::Columns;
 use pack_rules::Keywords;
-use pack_rules::RELATION_ROOM;
 use pack_rules::RangeEnds;
 use pack_rules::RuleEnds;
 use pack_token::piece_len;
 use pack_token::skip_white;
-use pack_walk::Counts;
+use pack_verdict::Read;
+use pack_verdict::judge_all;
 use pack_walk::Current;
-use pack_walk::Mark;
 use pack_walk::Step;
 use pack_walk::Walk;
 use pack_walk::step_after;
-
-// How many rules a pack has, or why it is not read.
-pub enum Read {
-    Rules(usize),
-    Refused(Refusal),
-}
-
-fn put_values(b: bool, a: &mut [u32], n: usize, v: u32)
-    ensures { λ _. ⌜ now (a .exit) ≡ setIf b (now (a .entry)) n v ⌝ }
-{
-    if b {
-        if n < a.len() {
-            a[n] = v;
-        }
-    }
-}
-
-fn put_bytes(b: bool, a: &mut [u8], n: usize, v: u8)
-    ensures { λ _. ⌜ now (a .exit) ≡ setIf b (now (a .entry)) n v ⌝ }
-{
-    if b {
-        if n < a.len() {
-            a[n] = v;
-        }
-    }
-}
-
-fn put_places(b: bool, a: &mut [usize], n: usize, v: usize)
-    ensures { λ _. ⌜ now (a .exit) ≡ setIf b (now (a .entry)) n v ⌝ }
-{
-    if b {
-        if n < a.len() {
-            a[n] = v;
-        }
-    }
-}
-
-fn wide(x: u8) -> u32
-    ensures { λ r. ⌜ r ≡ x ⌝ }
-{
-    x as u32
-}
-
-fn code(negated: bool) -> u32
-    ensures { λ r. ⌜ r ≡ codeOf negated ⌝ }
-{
-    if negated { 1 } else { 0 }
-}
-
-fn narrow(n: usize) -> u32
-    ensures { λ r. ⌜ r ≡ min n 4_294_967_295 ⌝ }
-{
-    if n < 4_294_967_295 {
-        n as u32
-    } else {
-        4_294_967_295
-    }
-}
-
-// Lent as a slice the array has the length that it is declared with.
-fn whole(a: &[u32]) {}
-
-// The row n: the relation that has been read, whose ranges end at this place.
-fn put_row(b: bool, a: &mut Columns, n: usize, o: Current, end: usize)
-    ensures { λ _. ⌜ now (a .exit) ≡ setRowIf b (now (a .entry)) n (rowFor o end) ⌝ }
-{
-    whole(a);
-    if b {
-        if n < RELATION_ROOM {
-            let k = 4 * n;
-            a[k] = wide(o.operand);
-            a[k + 1] = o.modulus;
-            a[k + 2] = code(o.negated);
-            a[k + 3] = narrow(end);
-        }
-    }
-}
-
-fn less_one(n: usize) -> usize
-    ensures { λ r. ⌜ r ≡ n - 1 ⌝ }
-{
-    if n == 0 { 0 } else { n - 1 }
-}
 
 // The token of m bytes at a place of s; behind s, its end.
 fn token_at<'a>(s: &'a [u8], end: &'a [u8], at: usize, m: usize) -> &'a [u8]
@@ -164,56 +83,6 @@ fn start() -> Walk
             place: 0,
         },
     }
-}
-
-fn row_of(n: u8) -> PackRow
-    ensures { λ r. ⌜ r ≡ rowOf n ⌝ }
-{
-    if n == 22 {
-        return PackRow::ValueTooLarge;
-    }
-    if n == 23 {
-        return PackRow::UnlistedModulus;
-    }
-    if n == 24 {
-        return PackRow::RangeReversed;
-    }
-    if n == 25 {
-        return PackRow::BadKeyword;
-    }
-    PackRow::TooMany
-}
-
-// By a fault's row and place: n rules where there is no fault.
-fn read_by(row: u8, place: usize, n: usize) -> Read
-    ensures { λ r. ⌜ r ≡ readBy row place n ⌝ }
-{
-    if row == 0 {
-        return Read::Rules(n);
-    }
-    Read::Refused(Refusal::Pack(row_of(row), Place(place)))
-}
-
-fn judge(w: Walk) -> Read
-    ensures { λ r. ⌜ r ≡ judged w ⌝ }
-{
-    let p = w.phase;
-    let c = w.counts;
-    let m = w.mark;
-    if same_phase(p, Phase::Name) {
-        return read_by(m.row, m.place, c.rules);
-    }
-    Read::Refused(Refusal::Pack(PackRow::NotAPack, Place(m.stop)))
-}
-
-// The answer at the end of a pack of n bytes.
-fn judge_all(n: usize, w: Walk) -> Read
-    ensures { λ r. ⌜ r ≡ judgedAll n w ⌝ }
-{
-    if MAX_BYTES < n {
-        return Read::Refused(Refusal::PackTooLong);
-    }
-    judge(w)
 }
 
 // Lent as slices the arrays have the lengths that they are declared with; there is nothing else to do.

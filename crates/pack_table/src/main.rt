@@ -5,12 +5,12 @@ ghost use lib.ListN.{length};
 use answer::Refusal;
 use libc::STDIN_FILENO;
 use libc::STDOUT_FILENO;
-use pack_reader::Read;
 use pack_rules::ClauseEnds;
 use pack_rules::Columns;
 use pack_rules::Keywords;
 use pack_rules::RangeEnds;
 use pack_rules::RuleEnds;
+use pack_verdict::Read;
 
 fn wide(x: usize) -> u64 {
     x as u64
@@ -22,8 +22,8 @@ fn wide_byte(x: u8) -> u64 {
 
 fn print_refusal(r: Refusal) {
     io::write_all(STDOUT_FILENO, b"! ");
-    io::print_decimal(STDOUT_FILENO, wide_byte(answer::number(r)));
-    let f = answer::figures(r);
+    io::print_decimal(STDOUT_FILENO, wide_byte(answer_table::number(r)));
+    let f = answer_lists::figures(r);
     if 0 < f.count {
         io::write_all(STDOUT_FILENO, b" ");
         io::print_decimal(STDOUT_FILENO, f.values[0]);

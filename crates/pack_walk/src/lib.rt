@@ -4,42 +4,31 @@
 // specs/Steps.antt has the change as definitions; the functions are those. Every function is total.
 ghost use mathlib.Core.Path.{_≡_};
 ghost use mathlib.Core.List.{[]};
-ghost use lib.ListN.{take};
-ghost use Rattle.decimal.specs.Choice.{if_then_else_, either};
 ghost use Rattle.pack_token.specs.Spelling.{same};
 ghost use Rattle.pack_grammar.specs.Grammar.{other};
-ghost use Rattle.pack_grammar.specs.Limits.{isModulus};
-ghost use Rattle.pack_walk.specs.Steps.{capped, keywordNumber, held, moreOf, moreIf, zeroIf, nothing, endsBare, endsRelation, countsAfter, currentAfter, nameRow, operandRow, valueRow, upperRow, markAfter, stepBy, stepAfter};
-use decimal::cut::upto;
-use decimal::value::value_of;
-use pack_grammar::MAX_BYTES;
-use pack_grammar::MAX_CLAUSES;
-use pack_grammar::MAX_RANGES;
-use pack_grammar::MAX_RELATIONS;
-use pack_grammar::MAX_VALUE;
+ghost use Rattle.pack_counts.specs.Counts.{nothing};
+ghost use Rattle.pack_walk.specs.Steps.{currentAfter, stepBy, stepAfter};
+use pack_counts::Closes;
+use pack_counts::Counts;
+use pack_counts::counts_each;
+use pack_counts::ends_bare;
+use pack_counts::ends_relation;
+use pack_counts::none;
+use pack_faults::Mark;
+use pack_faults::capped_value;
+use pack_faults::held_before;
+use pack_faults::is_modulus;
+use pack_faults::keyword_number;
+use pack_faults::mark_after;
+use pack_faults::name_row;
+use pack_faults::operand_row;
+use pack_faults::pick_byte;
+use pack_faults::upper_row;
+use pack_faults::value_row;
 use pack_phase::Phase;
 use pack_phase::next_phase;
 use pack_token::first_byte;
 use pack_token::same_text;
-
-// How many ranges, relations, clauses and rules the arrays hold; how many values the open relation,
-// relations the open clause and clauses the open rule has.
-pub struct Counts {
-    pub ranges: usize,
-    pub relations: usize,
-    pub clauses: usize,
-    pub rules: usize,
-    pub values: usize,
-    pub joined: usize,
-    pub parted: usize,
-}
-
-// What a token closes.
-pub struct Closes {
-    pub relation: bool,
-    pub clause: bool,
-    pub rule: bool,
-}
 
 // What is being read: the rule's keyword number, the relation's operand, modulus and sign, the last value, and
 // whether the token before was `other`.
@@ -50,14 +39,6 @@ pub struct Current {
     pub negated: bool,
     pub low: u32,
     pub other: bool,
-}
-
-// The place of the last token before nothing could follow; the first fault's number, 0 for none, and
-// its place.
-pub struct Mark {
-    pub stop: usize,
-    pub row: u8,
-    pub place: usize,
 }
 
 pub struct Walk {
@@ -75,203 +56,6 @@ pub struct Step {
     pub closes: Closes,
     pub starts: bool,
     pub ends: bool,
-}
-
-fn or_either(a: bool, b: bool) -> bool
-    ensures { λ r. ⌜ r ≡ either a b ⌝ }
-{
-    if a { true } else { b }
-}
-
-fn pick_byte(b: bool, x: u8, y: u8) -> u8
-    ensures { λ r. ⌜ r ≡ (if b then x else y) ⌝ }
-{
-    if b { x } else { y }
-}
-
-fn pick_place(b: bool, x: usize, y: usize) -> usize
-    ensures { λ r. ⌜ r ≡ (if b then x else y) ⌝ }
-{
-    if b { x } else { y }
-}
-
-// The value of the token, exact up to 1,000,000.
-pub fn capped_value(t: &[u8]) -> u32
-    ensures { λ r. ⌜ r ≡ capped (now (t .entry)) ⌝ }
-{
-    let v = value_of(t);
-    if v < 1_000_001 {
-        return v as u32;
-    }
-    1_000_001
-}
-
-fn number_if(t: &[u8], w: &[u8], n: u8, otherwise: u8) -> u8
-    ensures { λ r. ⌜ r ≡ (if same (now (t .entry)) (now (w .entry)) then n else otherwise) ⌝ }
-{
-    if same_text(t, w) {
-        return n;
-    }
-    otherwise
-}
-
-fn keyword_number(t: &[u8]) -> u8
-    ensures { λ r. ⌜ r ≡ keywordNumber (now (t .entry)) ⌝ }
-{
-    let a = number_if(t, b"other", 5, 6);
-    let b = number_if(t, b"many", 4, a);
-    let c = number_if(t, b"few", 3, b);
-    let d = number_if(t, b"two", 2, c);
-    let e = number_if(t, b"one", 1, d);
-    number_if(t, b"zero", 0, e)
-}
-
-// The key is one of the first n.
-fn held_before(keys: &[u8], n: usize, key: u8) -> bool
-    ensures { λ r. ⌜ r ≡ held key (take n (now (keys .entry))) ⌝ }
-{
-    let u = upto(keys, n);
-    let mut i = 0;
-    while i < u.len() {
-        if u[i] == key {
-            return true;
-        }
-        i += 1;
-    }
-    false
-}
-
-fn more(n: usize) -> usize
-    ensures { λ r. ⌜ r ≡ moreOf n ⌝ }
-{
-    if n < MAX_BYTES {
-        return n + 1;
-    }
-    n
-}
-
-fn more_if(b: bool, n: usize) -> usize
-    ensures { λ r. ⌜ r ≡ moreIf b n ⌝ }
-{
-    if b {
-        return more(n);
-    }
-    n
-}
-
-fn zero_if(b: bool, n: usize) -> usize
-    ensures { λ r. ⌜ r ≡ zeroIf b n ⌝ }
-{
-    if b { 0 } else { n }
-}
-
-fn none() -> Closes
-    ensures { λ r. ⌜ r ≡ nothing ⌝ }
-{
-    Closes {
-        relation: false,
-        clause: false,
-        rule: false,
-    }
-}
-
-// What a token closes behind `other:`.
-fn ends_bare(t: &[u8]) -> Closes
-    ensures { λ r. ⌜ r ≡ endsBare (now (t .entry)) ⌝ }
-{
-    Closes {
-        relation: false,
-        clause: false,
-        rule: same_text(t, b";"),
-    }
-}
-
-// What a token closes behind a value or range.
-fn ends_relation(t: &[u8]) -> Closes
-    ensures { λ r. ⌜ r ≡ endsRelation (now (t .entry)) ⌝ }
-{
-    let c = same_text(t, b";");
-    let b = or_either(same_text(t, b"or"), c);
-    let a = or_either(same_text(t, b"and"), b);
-    Closes {
-        relation: a,
-        clause: b,
-        rule: c,
-    }
-}
-
-// The counts behind a token, count by count.
-fn counts_each(c: Counts, value: bool, x: Closes) -> Counts
-    ensures { λ r. ⌜ r ≡ countsAfter c value x ⌝ }
-{
-    Counts {
-        ranges: more_if(value, c.ranges),
-        relations: more_if(x.relation, c.relations),
-        clauses: more_if(x.clause, c.clauses),
-        rules: more_if(x.rule, c.rules),
-        values: zero_if(x.relation, more_if(value, c.values)),
-        joined: zero_if(x.clause, more_if(x.relation, c.joined)),
-        parted: zero_if(x.rule, more_if(x.clause, c.parted)),
-    }
-}
-
-fn name_row(key: u8, again: bool) -> u8
-    ensures { λ r. ⌜ r ≡ nameRow key again ⌝ }
-{
-    if again {
-        return 25;
-    }
-    if key < 6 {
-        return 0;
-    }
-    25
-}
-
-fn operand_row(clauses: usize, relations: usize) -> u8
-    ensures { λ r. ⌜ r ≡ operandRow clauses relations ⌝ }
-{
-    if clauses < MAX_CLAUSES {
-        return pick_byte(relations < MAX_RELATIONS, 0, 26);
-    }
-    26
-}
-
-fn is_modulus(m: u32) -> bool
-    ensures { λ r. ⌜ r ≡ isModulus m ⌝ }
-{
-    let a = or_either(m == 100_000, m == 1_000_000);
-    let b = or_either(m == 10_000, a);
-    let c = or_either(m == 1000, b);
-    let d = or_either(m == 100, c);
-    or_either(m == 10, d)
-}
-
-fn value_row(v: u32, values: usize) -> u8
-    ensures { λ r. ⌜ r ≡ valueRow v values ⌝ }
-{
-    if MAX_VALUE < v {
-        return 22;
-    }
-    pick_byte(values < MAX_RANGES, 0, 26)
-}
-
-fn upper_row(v: u32, low: u32) -> u8
-    ensures { λ r. ⌜ r ≡ upperRow v low ⌝ }
-{
-    if MAX_VALUE < v {
-        return 22;
-    }
-    pick_byte(v < low, 24, 0)
-}
-
-fn mark_after(m: Mark, stop: usize, row: u8, at: usize) -> Mark
-    ensures { λ r. ⌜ r ≡ markAfter m stop row at ⌝ }
-{
-    Mark {
-        stop: stop,
-        row: pick_byte(m.row == 0, row, m.row),
-        place: pick_place(m.row == 0, at, m.place),
-    }
 }
 
 fn is_other(t: &[u8]) -> bool

@@ -76,7 +76,7 @@ fn print_reading(r: PatternReading) {
         PatternReading::Is(p) => print_pattern(p),
         PatternReading::Refused(refusal) => {
             io::write_all(STDOUT_FILENO, b"! ");
-            print(wide(answer::number(refusal)));
+            print(wide(answer_table::number(refusal)));
         }
     }
     io::write_all(STDOUT_FILENO, b"\n");

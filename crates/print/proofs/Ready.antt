@@ -2,20 +2,16 @@
 use mathlib.Core.Path.{_≡_}
 use mathlib.Core.Bool.{true, false}
 use mathlib.Core.List.{List}
-use Prim.Native.Nat.{ℕ, _-_, _≤_, _<_}
+use Prim.Native.Nat.{ℕ, _-_, _≤_}
 use native.Mathlib.Omega.{arith}
-use borrow.Author.Tests.{ltb-false, lt-ltb, le-ltb}
+use borrow.Author.Tests.{ltb-false, le-ltb}
 use lib.Dec.{ltb}
-use lib.ListN.{length, take, drop}
-use lib.Seq.{take-append-seam}
+use lib.ListN.{length}
 use Rattle.decimal.specs.Digits.{figures}
 use Rattle.decimal.proofs.Choices.{tested}
 use Rattle.decimal.proofs.Values.{power-mono}
 use Rattle.decimal.proofs.Figured.{length-figures}
-use Rattle.answer.specs.declared.Refusal.the-variants.{Print as OfPrint}
-use Rattle.answer.specs.declared.PrintRow.the-variants.{AreaTooShort}
-use Rattle.area.specs.Area.{Wrote, most}
-use Rattle.area.proofs.Pieces.{front}
+use Rattle.area.specs.Area.{most}
 use Rattle.symbols.specs.declared.Judged.the-variants.{Good}
 use Rattle.symbols.specs.Entries.{readSymbols, symbolIn, standardRecord}
 use Rattle.symbols_grammar.proofs.Records.{found-four}
@@ -33,8 +29,6 @@ use Rattle.nearest.specs.Nearest.{unitsOf}
 use Rattle.rounding.specs.Limits.{within, width, rounded}
 use Rattle.rounding.proofs.Arithmetic.{fits-within}
 use Rattle.layout.specs.Text.{affixesOf, digitsOf, textOf}
-use Rattle.print.specs.declared.Printed.the-variants.{Text, Refused}
-use Rattle.print.specs.Outcome.{text, answerOf, areaOf}
 use Rattle.print.proofs.Sizes.{text-size}
 
 read-short : (s : List ℕ) (p : Pattern) → readPattern s ≡ PatternIs p → length s ≤ maxBytes
@@ -68,27 +62,6 @@ ready-size house s p n eh ep =
       read-short s p ep,
       length-figures width (unitsOf (p .step) (p .factor) (p .most) (n .i) (n .v .0) (n .f .0)),
     )
-
--- ---- the area, once the bytes needed are known
-
-pub needed : (t o o′ : List ℕ) (need : ℕ) → length t ≤ most → Wrote o 0 t o′ need → need ≡ length t
-needed t o o′ need h w = omega (arith, w .next)
-
--- a text that has room in an area stands at its front
-pub laid-aside : (t o o′ : List ℕ) (need : ℕ) → need ≡ length t → Wrote o 0 t o′ need → need ≤ length o → take need o′ ≡ t
-laid-aside t o o′ need e w h = rw (front t w (omega arith), e) (take-append-seam t (drop (length t) o))
-
-pub short-answer : (t area : List ℕ) (need : ℕ) → need ≡ length t → length area < need
-    → (Refused (OfPrint (AreaTooShort need)) ≡ answerOf (text t) area) × (area ≡ areaOf (text t) area)
-short-answer t area need e h =
-    let k : ltb (length area) (length t) ≡ true = lt-ltb (length area) (length t) (omega arith) in
-    (rw (k, e), rw k)
-
-pub full-answer : (t area area′ : List ℕ) (need end : ℕ) → need ≡ length t → need ≤ length area → Wrote area 0 t area′ end
-    → (Text need ≡ answerOf (text t) area) × (area′ ≡ areaOf (text t) area)
-full-answer t area area′ need end e h w =
-    let k : ltb (length area) (length t) ≡ false = le-ltb (length area) (length t) (omega arith) in
-    (rw (k, e), rw k (front t w (omega arith)))
 
 -- ---- the digits, once rounding has filled their area
 

@@ -1,9 +1,7 @@
 -- Document 01: "Printing tests symbols, pattern, number, 50, 51."
-use mathlib.Core.Bool.{Bool}
-use mathlib.Core.List.{List, _++_}
+use mathlib.Core.List.{List}
 use Prim.Native.Nat.{ℕ}
 use lib.Dec.{ltb}
-use lib.ListN.{length, drop}
 use Rattle.decimal.specs.Choice.{if_then_else_}
 use Rattle.answer.specs.declared.Refusal.{Refusal}
 use Rattle.answer.specs.declared.Refusal.the-variants.{Print as OfPrint}
@@ -22,6 +20,9 @@ use Rattle.number.specs.Reading.{readNumber}
 use Rattle.print.specs.declared.Printed.{Printed}
 use Rattle.print.specs.declared.Printed.the-variants.{Text, Refused}
 use Rattle.layout.specs.Text.{textOf}
+use Rattle.print_area.specs.declared.Written.{Written}
+use Rattle.print_area.specs.declared.Written.the-variants.{Whole, TooLong}
+use Rattle.print_area.specs.Whole.{writtenIn, areaWith}
 
 -- what is to be printed, before the output area is looked at
 pub data Outcome : Type 0 where
@@ -47,16 +48,17 @@ afterSymbols house (SymbolsRefused r) s number = refused r
 abbrev pub outcome : List ℕ → List ℕ → List ℕ → Outcome
 outcome house s number = afterSymbols house (readSymbols house) s number
 
--- 51: "text longer than the output area"
-abbrev pub tooLong : List ℕ → List ℕ → Bool
-tooLong t area = ltb (length area) (length t)
+-- 51: "text longer than the output area", with the bytes needed
+abbrev pub toldAs : Written → Printed
+toldAs (Whole n) = Text n
+toldAs (TooLong n) = Refused (OfPrint (AreaTooShort n))
 
--- the answer: 51 with the bytes needed, or the text's length
+-- the answer: the text's length, or the refusal
 abbrev pub answerOf : Outcome → List ℕ → Printed
-answerOf (text t) area = if tooLong t area then Refused (OfPrint (AreaTooShort (length t))) else Text (length t)
+answerOf (text t) area = toldAs (writtenIn t area)
 answerOf (refused r) area = Refused r
 
 -- "A refusal writes nothing; a success writes its text at the front and no byte beyond": the whole area behind
 abbrev pub areaOf : Outcome → List ℕ → List ℕ
-areaOf (text t) area = if tooLong t area then area else t ++ drop (length t) area
+areaOf (text t) area = areaWith t area
 areaOf (refused r) area = area

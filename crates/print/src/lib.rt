@@ -2,7 +2,7 @@
 // refusal.
 //
 // The entry is print. specs/Outcome.antt says which refusal or text it is and what the area holds
-// behind; the text itself is layout's.
+// behind; crate print_area writes it.
 ghost use mathlib.Core.Path.{_≡_};
 ghost use mathlib.Core.Bool.{true};
 ghost use Prim.Native.Nat.{_≤_};
@@ -12,14 +12,15 @@ ghost use Rattle.rounding.specs.Limits.{within};
 ghost use Rattle.symbols.specs.Entries.{readSymbols, symbolIn, standardRecord};
 ghost use Rattle.pattern_reader.specs.Reading.{readPattern};
 ghost use Rattle.number.specs.Reading.{readNumber};
-ghost use Rattle.layout.specs.Text.{affixesOf, laidOut, textOf};
-ghost use Rattle.print.specs.Outcome.{text, ofNumber, afterNumber, afterPattern, outcome, answerOf, areaOf};
+ghost use Rattle.layout.specs.Text.{textOf};
+ghost use Rattle.print.specs.Outcome.{toldAs, ofNumber, afterNumber, afterPattern, outcome, answerOf, areaOf};
 use answer::PrintRow;
 use answer::Refusal;
 use number::Number;
 use number::Reading;
 use pattern_reader::Pattern;
 use pattern_reader::PatternReading;
+use print_area::Written;
 use symbols::Judged;
 
 // A text of so many bytes at the area's front, or why there is none.
@@ -28,35 +29,14 @@ pub enum Printed {
     Refused(Refusal),
 }
 
-// A text of at most so many bytes is laid out once.
-const ROOM: usize = 64;
-
-// Prints the digits, or says how many bytes are needed. The text is laid out aside, so that a refusal
-// writes nothing; one that had no room there is laid out again.
-fn print_digits(
-    house: &[u8],
-    pattern: &[u8],
-    p: Pattern,
-    negative: bool,
-    digits: &[u8],
-    out: &mut [u8],
-) -> Printed
-    requires { ⌜ length (laidOut (symbolIn (now house) standardRecord) (now pattern) p (affixesOf p negative) (now digits)) ≤ most ⌝ }
-    ensures { λ r. ⌜ r ≡ answerOf (text (laidOut (symbolIn (now (house .entry)) standardRecord) (now (pattern .entry)) p (affixesOf p negative) (now (digits .entry)))) (now (out .entry)) ⌝ }
-    ensures { λ _. ⌜ now (out .exit) ≡ areaOf (text (laidOut (symbolIn (now (house .entry)) standardRecord) (now (pattern .entry)) p (affixesOf p negative) (now (digits .entry)))) (now (out .entry)) ⌝ }
+// What the text in the area is told as: 51 where it is too long.
+fn told(w: Written) -> Printed
+    ensures { λ r. ⌜ r ≡ toldAs w ⌝ }
 {
-    let a = layout::affixes_of(p, negative);
-    let mut aside = [0u8; ROOM];
-    let need = layout::write_text(&mut aside, house, pattern, p, a, digits);
-    if out.len() < need {
-        return Printed::Refused(Refusal::Print(PrintRow::AreaTooShort(need)));
+    match w {
+        Written::Whole(n) => Printed::Text(n),
+        Written::TooLong(n) => Printed::Refused(Refusal::Print(PrintRow::AreaTooShort(n))),
     }
-    if need <= ROOM {
-        area::append(out, 0, decimal::cut::upto(&aside, need));
-        return Printed::Text(need);
-    }
-    layout::write_text(out, house, pattern, p, a, digits);
-    Printed::Text(need)
 }
 
 // The number is read: 50, and then its digits.
@@ -73,7 +53,7 @@ fn print_number(house: &[u8], pattern: &[u8], p: Pattern, n: Number, out: &mut [
     let f = n.f;
     let mut digits = [48u8; 41];
     rounding::round_into(&mut digits, p.step, p.factor, p.most, n.i, v, f);
-    print_digits(house, pattern, p, n.negative, &digits, out)
+    told(print_area::write_digits(house, pattern, p, n.negative, &digits, out))
 }
 
 fn print_text(house: &[u8], pattern: &[u8], p: Pattern, number: &[u8], out: &mut [u8]) -> Printed
@@ -81,7 +61,7 @@ fn print_text(house: &[u8], pattern: &[u8], p: Pattern, number: &[u8], out: &mut
     ensures { λ r. ⌜ r ≡ answerOf (afterNumber (now (house .entry)) (now (pattern .entry)) p (readNumber (now (number .entry)))) (now (out .entry)) ⌝ }
     ensures { λ _. ⌜ now (out .exit) ≡ areaOf (afterNumber (now (house .entry)) (now (pattern .entry)) p (readNumber (now (number .entry)))) (now (out .entry)) ⌝ }
 {
-    let reading = number::read_number(number);
+    let reading = number_text::read_number(number);
     match reading {
         Reading::Is(n) => print_number(house, pattern, p, n, out),
         Reading::Refused(r) => Printed::Refused(r),

@@ -26,8 +26,8 @@ fn write_answer(r: Printed, out: &[u8]) {
         }
         Printed::Refused(refusal) => {
             io::write_all(STDOUT_FILENO, b"! ");
-            io::print_decimal(STDOUT_FILENO, wide(answer::number(refusal)));
-            write_figures(answer::figures(refusal));
+            io::print_decimal(STDOUT_FILENO, wide(answer_table::number(refusal)));
+            write_figures(answer_lists::figures(refusal));
         }
     }
     io::write_all(STDOUT_FILENO, b"\n");

@@ -24,8 +24,8 @@ use Rattle.pack_grammar.specs.Reader.PackAnswer.{Rules, Refused as PackRefused}
 use Rattle.pack_bare.specs.Bare.{isBare, bareRule}
 use Rattle.pack_bare.proofs.Bares.{bare-read}
 use Rattle.pack_reader.specs.Answer.{readOf, rulesOf}
-use Rattle.pack_reader.specs.declared.Read.{Read}
-use Rattle.pack_reader.specs.declared.Read.the-variants.{Rules as Counted, Refused as Bad}
+use Rattle.pack_verdict.specs.declared.Read.{Read}
+use Rattle.pack_verdict.specs.declared.Read.the-variants.{Rules as Counted, Refused as Bad}
 use Rattle.select.specs.Select.{selection}
 use Rattle.select.specs.declared.Selection.{Selection}
 use Rattle.select.specs.declared.Selection.the-variants.{Word, Refused}

@@ -6,12 +6,12 @@ ghost use Rattle.pack_bare.specs.Bare.{bareRule};
 ghost use Rattle.select_text.specs.Select.{selectNumber, selectRules, selectOf};
 use answer::Keyword;
 use number::Reading;
-use pack_reader::Read;
 use pack_rules::ClauseEnds;
 use pack_rules::Columns;
 use pack_rules::Keywords;
 use pack_rules::RangeEnds;
 use pack_rules::RuleEnds;
+use pack_verdict::Read;
 use select::Selection;
 
 // By the pack that is `other:` alone.
@@ -65,7 +65,7 @@ fn select_read(pack: &[u8], reading: Reading) -> Selection
 pub fn select(pack: &[u8], number: &[u8]) -> Selection
     ensures { λ r. ⌜ r ≡ selectOf (now (pack .entry)) (now (number .entry)) ⌝ }
 {
-    let reading = number::read_number(number);
+    let reading = number_text::read_number(number);
     if pack_bare::is_bare(pack) {
         return select_bare(reading);
     }

@@ -36,7 +36,7 @@ fn print_judged(j: Judged) {
         }
         Judged::Refused(refusal) => {
             io::write_all(STDOUT_FILENO, b"! ");
-            io::print_decimal(STDOUT_FILENO, wide(answer::number(refusal)));
+            io::print_decimal(STDOUT_FILENO, wide(answer_table::number(refusal)));
         }
     }
 }

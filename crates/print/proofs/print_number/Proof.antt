@@ -18,26 +18,30 @@ slice-aggregate-round-into c = search needs
 round-into-requires : tie.Need-round-into-requires
 round-into-requires c κs = search needs
 
-slice-aggregate-print-digits : tie.Need-slice-aggregate-print-digits
-slice-aggregate-print-digits c = search needs
+slice-aggregate-write-digits : tie.Need-slice-aggregate-write-digits
+slice-aggregate-write-digits c = search needs
 
-print-digits-requires : tie.Need-print-digits-requires
-print-digits-requires c κs =
+write-digits-requires : tie.Need-write-digits-requires
+write-digits-requires c κs =
     let s = c .before .before .before .before .before .before .before .before .before .before .before .before in
     let r = c .before .before .before .round-into in
     let e : r .last .0 ≡ digitsOf (s .args .p) (s .args .n) = digits-are (s .args .p) (s .args .n) (figures width 0) (r .last .0) refl (s .pre .0) (r .ensures .1) in
     rw e (s .pre .1)
+
+told-requires : tie.Need-told-requires
+told-requires c κs = search needs
 
 same-length : tie.Need-same-length
 same-length c = search needs
 
 returns-2 : tie.Need-returns-2
 returns-2 c =
-    let s = c .before .before .before .before .before .before .before .before .before .before .before .before .before .before .before in
-    let r = c .before .before .before .before .before .before .round-into in
+    let s = c .before .before .before .before .before .before .before .before .before .before .before .before .before .before .before .before in
+    let r = c .before .before .before .before .before .before .before .round-into in
     let e : r .last .0 ≡ digitsOf (s .args .p) (s .args .n) = digits-are (s .args .p) (s .args .n) (figures width 0) (r .last .0) refl (s .pre .0) (r .ensures .1) in
-    let x = rw e at (c .before .before .print-digits .ensures) in
-    (rw (le-ltb _ _ (c .before .before .before .before .before .before .before .before .before .before .if1 .left)) (x .0), rw (le-ltb _ _ (c .before .before .before .before .before .before .before .before .before .before .if1 .left)) (x .1))
+    let x = rw e at (c .before .before .before .write-digits .ensures) in
+    let y = rw (x .0) at (c .told .ensures) in
+    (rw (le-ltb _ _ (c .before .before .before .before .before .before .before .before .before .before .before .if1 .left)) y, rw (le-ltb _ _ (c .before .before .before .before .before .before .before .before .before .before .before .if1 .left)) (x .1))
 
 pub print-number-spec : {M : Type 1} → statement M
 print-number-spec =
@@ -46,7 +50,8 @@ print-number-spec =
     returns
     slice-aggregate-round-into
     round-into-requires
-    slice-aggregate-print-digits
-    print-digits-requires
+    slice-aggregate-write-digits
+    write-digits-requires
+    told-requires
     same-length
     returns-2)

@@ -1,7 +1,7 @@
--- `screen::okw_check` answers by the case of the check.
+-- `screen::okw_check` gives the code and the figures of the check.
 use Rattle.check_text.specs.Check.{checkPack}
-use Rattle.screen.proofs.Noted.{told}
-use Rattle.screen.specs.Entries.{noted, checkCode, checkFigures}
+use Rattle.screen_figures.proofs.Noted.{told}
+use Rattle.screen_figures.specs.Figures.{checkCode, checkFigures}
 use borrow.Author.Needs.{needs}
 use Rattle.screen.proofs.okw_check.Statement.{statement}
 use Rattle.screen.proofs.okw_check.Tie as tie
@@ -9,38 +9,14 @@ use Rattle.screen.proofs.okw_check.Tie as tie
 check-requires : tie.Need-check-requires
 check-requires c κs = search needs
 
-enum-told : tie.Need-enum-told
-enum-told c = search needs
-
-note-none-requires : tie.Need-note-none-requires
-note-none-requires c κs = search needs
-
-enum-known-checked : tie.Need-enum-known-checked
-enum-known-checked c = search needs
-
-note-refusal-requires : tie.Need-note-refusal-requires
-note-refusal-requires c κs = search needs
+note-check-requires : tie.Need-note-check-requires
+note-check-requires c κs = search needs
 
 returns : tie.Need-returns
 returns c =
-    let a = c .before .before .before .before .before .before .args in
-    let r = c .before .before .before .before .check in
-    told checkCode checkFigures (checkPack (a .pack .now)) (r .result) _ (c .note-none .result) (c .note-none .last .0) (a .figures .now) (r .ensures) (c .before .before .enum-told .given .1) (c .note-none .ensures .0) (c .note-none .ensures .1)
-
-returns-2 : tie.Need-returns-2
-returns-2 c =
-    let a = c .before .before .before .before .before .before .before .args in
-    let r = c .before .before .before .before .before .check in
-    told checkCode checkFigures (checkPack (a .pack .now)) (r .result) _ (c .note-refusal .result) (c .note-refusal .last .0) (a .figures .now) (r .ensures) (c .before .before .before .checked .given .1) (c .note-refusal .ensures .0) (c .note-refusal .ensures .1)
+    let a = c .before .before .before .before .args in
+    let r = c .before .check in
+    told checkCode checkFigures (r .result) (checkPack (a .pack .now)) (c .note-check .result) (c .note-check .last .0) (a .figures .now) (r .ensures) (c .note-check .ensures .0) (c .note-check .ensures .1)
 
 pub okw-check-spec : {M : Type 1} → statement M
-okw-check-spec =
-    tie.close
-    (tie.spec
-    check-requires
-    enum-told
-    note-none-requires
-    enum-known-checked
-    note-refusal-requires
-    returns
-    returns-2)
+okw-check-spec = tie.close (tie.spec check-requires note-check-requires returns)

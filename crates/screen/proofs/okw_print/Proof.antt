@@ -1,7 +1,7 @@
--- `screen::okw_print` answers by the case of what was printed.
+-- `screen::okw_print` gives the code and the figures of what was printed.
 use Rattle.print.specs.Outcome.{outcome, answerOf}
-use Rattle.screen.proofs.Noted.{told}
-use Rattle.screen.specs.Entries.{noted, printCode, printFigures}
+use Rattle.screen_figures.proofs.Noted.{told}
+use Rattle.screen_figures.specs.Figures.{printCode, printFigures}
 use borrow.Author.Needs.{needs}
 use Rattle.screen.proofs.okw_print.Statement.{statement}
 use Rattle.screen.proofs.okw_print.Tie as tie
@@ -9,52 +9,18 @@ use Rattle.screen.proofs.okw_print.Tie as tie
 print-requires : tie.Need-print-requires
 print-requires c κs = search needs
 
-enum-known-printed : tie.Need-enum-known-printed
-enum-known-printed c = search needs
-
-note-one-requires : tie.Need-note-one-requires
-note-one-requires c κs = search needs
-
-enum-known-printed-2 : tie.Need-enum-known-printed-2
-enum-known-printed-2 c = search needs
-
-note-refusal-requires : tie.Need-note-refusal-requires
-note-refusal-requires c κs = search needs
+note-printed-requires : tie.Need-note-printed-requires
+note-printed-requires c κs = search needs
 
 same-length : tie.Need-same-length
 same-length c = search needs
 
 returns : tie.Need-returns
 returns c =
-    let a = c .before .before .before .before .before .before .before .before .before .before .before .before .before .args in
-    let r = c .before .before .before .before .before .before .before .print in
-    let t =
-    told printCode printFigures (answerOf (outcome (a .symbols .now) (a .pattern .now) (a .number .now)) (a .out .now)) (r .result) _ (c .note-one .result) (c .note-one .last .0) (a .figures .now) (r .ensures .0) (c .before .before .before .printed .given .1)
-    (c .note-one .ensures .0) (c .note-one .ensures .1) in
-    (t .0, (r .ensures .1, t .1))
-
-same-length-2 : tie.Need-same-length-2
-same-length-2 c = search needs
-
-returns-2 : tie.Need-returns-2
-returns-2 c =
-    let a = c .before .before .before .before .before .before .before .before .before .before .before .before .before .args in
-    let r = c .before .before .before .before .before .before .before .print in
-    let t =
-    told printCode printFigures (answerOf (outcome (a .symbols .now) (a .pattern .now) (a .number .now)) (a .out .now)) (r .result) _ (c .note-refusal .result) (c .note-refusal .last .0) (a .figures .now) (r .ensures .0) (c .before .before .before .printed2 .given .1)
-    (c .note-refusal .ensures .0) (c .note-refusal .ensures .1) in
+    let a = c .before .before .before .before .before .before .before .before .before .before .args in
+    let r = c .before .before .before .print in
+    let t = told printCode printFigures (r .result) (answerOf (outcome (a .symbols .now) (a .pattern .now) (a .number .now)) (a .out .now)) (c .note-printed .result) (c .note-printed .last .0) (a .figures .now) (r .ensures .0) (c .note-printed .ensures .0) (c .note-printed .ensures .1) in
     (t .0, (r .ensures .1, t .1))
 
 pub okw-print-spec : {M : Type 1} → statement M
-okw-print-spec =
-    tie.close
-    (tie.spec
-    print-requires
-    enum-known-printed
-    note-one-requires
-    enum-known-printed-2
-    note-refusal-requires
-    same-length
-    returns
-    same-length-2
-    returns-2)
+okw-print-spec = tie.close (tie.spec print-requires note-printed-requires same-length returns)
