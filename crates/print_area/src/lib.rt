@@ -1,8 +1,8 @@
 // A number's text in the area that the caller lends: whole at its front, or nothing of it and the bytes
 // needed.
 //
-// The entry is write_digits; specs/Whole.antt says what it answers and what the area holds behind. The text
-// itself is layout's.
+// write_digits is for crate print, which knows from what it read how long a text can be. specs/Whole.antt
+// says what it answers and what the area holds behind. The text itself is layout's.
 ghost use mathlib.Core.Path.{_≡_};
 ghost use Prim.Native.Nat.{_≤_};
 ghost use lib.ListN.{length};
