@@ -7,10 +7,10 @@ use native.Mathlib.Nat.{pow-suc, mod-one, mod-le, mod-eq_of_lt}
 use lib.Dec.{ltb}
 use borrow.Author.Tests.{ltb-true, ltb-false}
 use native.Mathlib.Numerals.{add-one}
-use lib.Arith.{mod-mul, digits_div, digits_mod}
+use lib.Arith.{mod-mul}
 use lib.ListN.{length, get_or, take, drop, set, length-append, length-set, length-drop, take-append-drop}
 use lib.Seq.{drop-cons, drop-length, append_snoc, get_or-set_same, drop-set-lt, take-suc, take-length, take-take, take-set-le, take-suc-set, take-append_seam}
-use Rattle.decimal.specs.Digits.{is_digit, run, value_from, value, figures, lead, AllDigits, shown, wide, numeral}
+use Rattle.decimal.specs.Digits.{is_digit, value, figures, lead, AllDigits, shown, wide, numeral}
 use Rattle.decimal.proofs.Choices.{tested}
 use Rattle.decimal.proofs.Runs.{of_append, of_cons, digit_is, digit_bounds, of_head, of_take, of_drop}
 use Rattle.decimal.proofs.Values.{value_snoc, power_pos, ten_pos}

@@ -10,7 +10,6 @@ use borrow.Author.Tests.{ltb-true, ltb-false, lt-ltb, le-ltb}
 use lib.Dec.{ltb}
 use lib.ListN.{length, get_or, take, drop, drop_of_length-le, length-append}
 use lib.Seq.{drop-cons, length-take-le}
-use Rattle.decimal.specs.Choice.{if◌then◌else◌}
 use Rattle.decimal.specs.Lists.{run_of, AllOf}
 use Rattle.decimal.specs.Digits.{is_digit}
 use Rattle.decimal.proofs.Choices.{tested, not_both}

@@ -1,6 +1,5 @@
 -- Laws of the value of digits, over the power of ten.
-use mathlib.Core.Path.{◌≡◌, refl, sym, ap, ◌∙◌}
-use mathlib.Core.Bool.{Bool, true, false}
+use mathlib.Core.Path.{◌≡◌, refl, ap, ◌∙◌}
 use mathlib.Core.List.{List, [], ◌∷◌, ◌++◌}
 use Prim.Native.Nat.{ℕ, zero, suc, ◌+◌, ◌*◌, ◌-◌, ◌^◌, ◌≤◌, ◌<◌, min}
 use native.Mathlib.Omega.{arith}
@@ -8,9 +7,9 @@ use native.Mathlib.Nat.{pow-succ', mul-le-mul_right, pow-le-pow_right, one-le-po
 use native.Mathlib.Numerals.{add-one}
 use borrow.Author.Tests.{leb-true, leb-false}
 use lib.Dec.{leb}
-use lib.ListN.{length, get_or, take, drop}
+use lib.ListN.{length, get_or, take}
 use lib.Seq.{take-suc}
-use Rattle.decimal.specs.Digits.{is_digit, run, value_from, value, first, AllDigits}
+use Rattle.decimal.specs.Digits.{is_digit, value_from, value, first, AllDigits}
 use Rattle.decimal.proofs.Choices.{tested}
 use Rattle.decimal.proofs.Runs.{digit_bounds, of_head, of_cons}
 

@@ -1,21 +1,18 @@
 -- Laws of leading and trailing zeros.
-use mathlib.Core.Path.{◌≡◌, refl, sym, ap, ◌∙◌}
-use mathlib.Core.Bool.{Bool, true, false}
+use mathlib.Core.Path.{◌≡◌, refl, ap, ◌∙◌}
 use mathlib.Core.List.{List, [], ◌∷◌, ◌++◌}
 use mathlib.Core.Logic.{◌⊎◌, ⊎_elim}
 use Prim.Native.Nat.{ℕ, zero, suc, ◌+◌, ◌*◌, ◌-◌, ◌%◌, ◌^◌, ◌≤◌, ◌<◌, min}
 use native.Mathlib.Omega.{arith}
-use native.Mathlib.Nat.{pow-succ', mul-le-mul_right, sub-zero, suc-sub-suc, sub_self}
-use native.Mathlib.Numerals.{add-one}
+use native.Mathlib.Nat.{pow-succ', mul-le-mul_right, sub-zero, suc-sub-suc}
 use borrow.Author.Tests.{eqb-true, eqb-false, eq-eqb, ne_eqb}
 use lib.Dec.{eqb}
-use lib.ListN.{length, get_or, take, drop, drop_of_length-le}
-use lib.Seq.{drop-cons, take-suc}
-use Rattle.decimal.specs.Choice.{if◌then◌else◌}
+use lib.ListN.{length, get_or, take, drop}
+use lib.Seq.{take-suc}
 use Rattle.decimal.specs.Digits.{is_digit, is_zero, value_from, value, lead, shown, keep, trim, AllDigits}
-use Rattle.decimal.proofs.Choices.{tested, choice}
-use Rattle.decimal.proofs.Runs.{digit_bounds, run_stop, of_head, of_cons}
-use Rattle.decimal.proofs.Values.{value_from_law, value_lt, value_scales, power_mono}
+use Rattle.decimal.proofs.Choices.{tested}
+use Rattle.decimal.proofs.Runs.{digit_bounds, run_stop, of_head}
+use Rattle.decimal.proofs.Values.{value_lt, value_scales, power_mono}
 
 -- ---- leading zeros
 

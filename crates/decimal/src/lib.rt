@@ -2,6 +2,8 @@
 //
 // Every function is total: it takes any bytes and any numbers. A value is that of a digit list
 // (specs/Digits.antt), exact below 10^18 and kept at 10^18 from there on.
+#![tactic(auto)]
+
 pub mod cut;
 pub mod figure;
 pub mod num;
