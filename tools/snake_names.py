@@ -5,8 +5,8 @@ usage: tools/snake_names.py [ROOT]
 
 Every name that a file of specs/ or proofs/ declares and that has a hyphen or a capital inside, as tokenLen or value-more, becomes token_len and
 value_more, wherever it is cited: in .antt files, in clauses and `ghost use` lines of .rt files, and in backticks in comments and pages. Types, modules,
-functions of src/, strings, inputs and outputs keep their names. Behind a dot a name stays, but behind a path that begins with Rattle: it may be a
-label of a goal. Where two names would fall together in a file, nothing is written and the names are listed: OTHER has those that got another name.
+functions of src/, strings, inputs and outputs keep their names. In a function's proof a name behind a dot stays, but behind a path that begins with
+Rattle: it may be a label of a goal. Where two names would fall together in a file, nothing is written and the names are listed: OTHER has those that got another name.
 """
 import os
 import re
@@ -105,7 +105,7 @@ def declared(root):
     return names
 
 
-def cite(text, names, aliases=()):
+def cite(text, names, aliases=(), dotted=False):
     def one(m):
         if m["string"]:
             return m[0]
@@ -115,7 +115,7 @@ def cite(text, names, aliases=()):
             head, _, last = m[0].rpartition(".")
             return head + "." + names.get(last, last)
         if m["dotted"]:
-            return m[0]
+            return "." + names.get(m[0][1:], m[0][1:]) if dotted else m[0]
         return names.get(m[0], m[0])
 
     return TOKEN.sub(one, text)
@@ -150,12 +150,14 @@ class Older(dict):
 def turned(path, text, names, older):
     comment = "--" if path.endswith(".antt") else "//"
     lines, aliases = [], ALIAS.findall(text)
+    # A field of a record of the repository's own; in an answer the name behind a dot may be a label.
+    dotted = path.endswith(".antt") and not of_function(path)
     for line in text.split("\n"):
         code, rest = line, ""
         at = re.search(rf"(?:^|\s){comment}(?:\s|$)", line)
         if at:
             code, rest = line[: at.start()], line[at.start() :]
-        lines.append(cite(code, names, aliases) + ticks(rest, older))
+        lines.append(cite(code, names, aliases, dotted) + ticks(rest, older))
     return "\n".join(lines)
 
 

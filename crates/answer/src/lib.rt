@@ -4,6 +4,8 @@
 // own type. specs/Table.antt gives a row's number and figures; crate answer_table has the numbers as a
 // function, crate answer_lists the figures and the keywords' letters. A new row is a line in the enum
 // of its input, in its definition and in its function.
+#![tactic(auto)]
+
 use decimal::{DigitValue, Places};
 
 // A place in a text: the index of a byte, or the text's length.

@@ -3,6 +3,8 @@
 // Crate answer's specs/Table.antt gives a row's figures, specs/Words.antt a keyword's letters, and
 // specs/Lists.antt the array that holds such a list; the functions here are those definitions. The
 // entries are figures and word.
+#![tactic(auto)]
+
 ghost use Rattle.std.specs.Prelude.{◌≡◌, [], ◌∷◌};
 ghost use Rattle.answer.specs.Table.{rules_figures, print_figures, figures_of};
 ghost use Rattle.answer.specs.Words.{spelling};

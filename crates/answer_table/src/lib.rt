@@ -2,6 +2,8 @@
 //
 // Crate answer has the rows as types, and its specs/Table.antt gives each row's number; the functions
 // here are those definitions, one for the rows of each input. The entry is number.
+#![tactic(auto)]
+
 ghost use Rattle.std.specs.Prelude.{◌≡◌};
 ghost use Rattle.answer.specs.Table.{number_row, pack_row, rules_row, pattern_row, symbol_row, print_row, number_of};
 

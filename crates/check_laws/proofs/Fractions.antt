@@ -106,7 +106,7 @@ module _ (c : List Relation) where
   zero_t : (q : ℕ) → Fits is_whole c q → T q ≡ 0
   zero_t q g =
       let z = eqb-true (W q) 0 g.kind in
-      let h : T q < 10 ^ 0 = subst (λ (x : ℕ). T q < 10 ^ x) z g.parts.t-lt in
+      let h : T q < 10 ^ 0 = subst (λ (x : ℕ). T q < 10 ^ x) z g.parts.t_lt in
       omega arith
 
   asks_zero : (q : ℕ) → Fits is_whole c q → all (λ (r : Relation). passes (query_t 0) r 0) c ≡ true
@@ -184,7 +184,7 @@ module _ (k : ℕ) (hk : k < max_places) (c : List Relation) where
     f_is = subst (λ (x : ℕ). T q * 10 ^ x ≡ f_of q) tail g.parts.whole
 
     t_lt : T q < 10 ^ (v_of q - k)
-    t_lt = subst (λ (x : ℕ). T q < 10 ^ x) w_is g.parts.t-lt
+    t_lt = subst (λ (x : ℕ). T q < 10 ^ x) w_is g.parts.t_lt
 
     in_range_law : T q < 10 ^ (max_places - k)
     in_range_law = let m : 10 ^ (v_of q - k) ≤ 10 ^ (max_places - k) = power_mono {j = max_places - k} (omega arith) in omega (arith, t_lt)

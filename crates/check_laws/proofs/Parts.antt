@@ -38,7 +38,7 @@ parts v f h =
 -- w is 0 exactly where f is
 pub none_zero : {v f w t : ℕ} → Parts v f w t → w ≡ 0 → f ≡ 0
 none_zero {v} {f} {w} {t} p e =
-    let h : t < 10 ^ 0 = subst (λ (x : ℕ). t < 10 ^ x) e p.t-lt in
+    let h : t < 10 ^ 0 = subst (λ (x : ℕ). t < 10 ^ x) e p.t_lt in
     let z : t ≡ 0 = omega arith in
     sym p.whole ∙ ap (λ (x : ℕ). x * 10 ^ (v - w)) z ∙ (let q : 0 * 10 ^ (v - w) ≡ 0 = omega arith in q)
 

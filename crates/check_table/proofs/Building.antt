@@ -50,10 +50,10 @@ laid_store {starts} {ends} n a b h x y l =
       few = l.few;
       rise = l.rise;
       within = l.within;
-      low = small_set starts n a (omega (arith, l.starts-long)) x l.low;
-      high = small_set ends n b (omega (arith, l.ends-long)) y l.high;
-      starts_long = length-set starts n a ∙ l.starts-long;
-      ends_long = length-set ends n b ∙ l.ends-long;
+      low = small_set starts n a (omega (arith, l.starts_long)) x l.low;
+      high = small_set ends n b (omega (arith, l.ends_long)) y l.high;
+      starts_long = length-set starts n a ∙ l.starts_long;
+      ends_long = length-set ends n b ∙ l.ends_long;
       at_long = l.at_long;
     }
 
@@ -127,7 +127,7 @@ module _ {S : ℕ → ℕ → Bool} {P : ℕ → Bool} {starts ends at : List �
           fits = omega arith;
           reach = b;
           covers = subst (λ (s : List Segment). Covers P (S j) s stop)
-              (sym (segments_more starts ends (get_or at j 0) n a (stop - 1) f.some (omega (arith, l.starts-long)) (omega (arith, l.ends-long))))
+              (sym (segments_more starts ends (get_or at j 0) n a (stop - 1) f.some (omega (arith, l.starts_long)) (omega (arith, l.ends_long))))
               (covers_more P (S j) (segments_in starts ends (get_or at j 0) n) f.covers o h);
         }
 
@@ -188,8 +188,8 @@ module _ (q : Query) (c : List Relation) where
           within = omega (arith, new n);
           low = l.low;
           high = l.high;
-          starts_long = l.starts-long;
-          ends_long = l.ends-long;
+          starts_long = l.starts_long;
+          ends_long = l.ends_long;
           at_long = length-set at (suc j) n ∙ l.at_long;
         }
 

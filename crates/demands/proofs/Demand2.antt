@@ -51,4 +51,4 @@ the_text house s t area n = (λ e. only (print_found house s t area) e, from)
         record { pattern = p; operands = x; text = text; is_text = w; size = sym k; fits = h; area-after = refl }
 
     from : TheText house s t area (area_of (outcome house s t) area) n → answer_of (outcome house s t) area ≡ Text n
-    from w = (print_given house s t area (prints w.pattern w.operands w.text w.is-text w.fits)).0 ∙ ap Text (sym w.size)
+    from w = (print_given house s t area (prints w.pattern w.operands w.text w.is_text w.fits)).0 ∙ ap Text (sym w.size)

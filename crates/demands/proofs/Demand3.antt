@@ -180,7 +180,7 @@ grown smaller added larger number rules d r p q =
         record {
           named = λ j w m.
               let same : m.operands ≡ x = read_as (sym (number_given number m.number_read) ∙ n) in
-              let at = subst (λ (y : Number). MeetsAt y (map segment_rule added) j w) same m.meets-it in
+              let at = subst (λ (y : Number). MeetsAt y (map segment_rule added) j w) same m.meets_it in
               let none : met rs x ≡ 0 = omega (arith, sum, both-few, counted x at) in
               word-q ∙ ap Word (word_added x rs (map segment_rule added) none ∙ word_of x at (omega (arith, sum, both-few)));
           kept = λ m c v.

@@ -255,9 +255,9 @@ module _ (house s t area : List ℕ) where
   printable : (p : Pattern) (n : Operands) (text : List ℕ) → Printable house s t p n text → outcome house s t ≡ ToText text
   printable p n text w =
       let x : Read house s t p n = record { symbols = symbols-given house w.symbols; pattern = pattern-given s w.pattern; number = number_given t w.number } in
-      let e : w.symbol ≡ symbol_in house standard_record = fun_ext (λ y. sym ((symbol_is house x.symbols y (w.symbol y)).0 (w.symbols-are y))) in
-      sym (verdict_only house s t (outcome-prints p n x w.no-exponent))
-      ∙ ap ToText (sym ((printed_text s t p n x.pattern x.number (symbol_in house standard_record) text).0 (subst (λ (f : Symbol → List ℕ). PrintedText f s p n text) e w.is-text)))
+      let e : w.symbol ≡ symbol_in house standard_record = fun_ext (λ y. sym ((symbol_is house x.symbols y (w.symbol y)).0 (w.symbols_are y))) in
+      sym (verdict_only house s t (outcome-prints p n x w.no_exponent))
+      ∙ ap ToText (sym ((printed_text s t p n x.pattern x.number (symbol_in house standard_record) text).0 (subst (λ (f : Symbol → List ℕ). PrintedText f s p n text) e w.is_text)))
 
   pub print_given : {r : Printed} {after : List ℕ} → PrintVerdict house s t area r after
       → (answer_of (outcome house s t) area ≡ r) × (area_of (outcome house s t) area ≡ after)

@@ -92,5 +92,5 @@ units_permitted step factor most i v f h =
 pub permitted_only : (step factor most i v f a b : ℕ) → 0 < step → Permitted step factor most i v f a → Permitted step factor most i v f b → a ≡ b
 permitted_only step factor most i v f a b h x y =
     let p : 1 * 1 ≤ step * 10 ^ v = mul-le-mul h (power_pos v) in
-    let e = only (exact factor most i v f) (step * 10 ^ v) x.multiple y.multiple (omega arith) x.nearest-even y.nearest-even in
-    x.is-multiple ∙ ap (λ (k : ℕ). k * step) e ∙ sym y.is-multiple
+    let e = only (exact factor most i v f) (step * 10 ^ v) x.multiple y.multiple (omega arith) x.nearest_even y.nearest_even in
+    x.is_multiple ∙ ap (λ (k : ℕ). k * step) e ∙ sym y.is_multiple

@@ -32,10 +32,10 @@ use Rattle.number.proofs.Table.{reads, read_if}
 -- ---- every number read is admitted
 
 integer_digits_law : (s : List ℕ) (p : Parts) → Spells s p → AllDigits (integer_digits p)
-integer_digits_law s p h = of_append is_digit p.whole (first (shift_of p) p.fraction) h.whole-digits (digits_first (shift_of p) p.fraction h.fraction-digits)
+integer_digits_law s p h = of_append is_digit p.whole (first (shift_of p) p.fraction) h.whole_digits_law (digits_first (shift_of p) p.fraction h.fraction_digits_law)
 
 fraction_digits_law : (s : List ℕ) (p : Parts) → Spells s p → AllDigits (fraction_digits p)
-fraction_digits_law s p h = of_drop is_digit (shift_of p) p.fraction h.fraction-digits
+fraction_digits_law s p h = of_drop is_digit (shift_of p) p.fraction h.fraction_digits_law
 
 written : (x : List ℕ) → 0 < value x → 0 < length x
 written [] h = omega arith

@@ -149,7 +149,7 @@ exponent_complete negative whole fraction (b ∷ s) m k x =
 point_complete : (negative : Bool) (whole fraction exponent : List ℕ) (m : ℕ) → Mark m → AllDigits fraction → (0 < length exponent → is_exponent exponent ≡ true)
     → point_at negative whole (marked 46 fraction ++ marked m exponent) ≡ some (parts_from negative whole fraction exponent)
 point_complete negative whole [] exponent m k d x =
-    rw (begins_marked m exponent k.no-point) (exponent_complete negative whole [] exponent m k x)
+    rw (begins_marked m exponent k.no_point) (exponent_complete negative whole [] exponent m k x)
 point_complete negative whole (b ∷ s) exponent m k d x =
     let f = b ∷ s in
     let t = marked m exponent in
@@ -195,10 +195,10 @@ complete s p h = ap parts_of h.text ∙ signed p.negative
     signed : (negative : Bool) → parts_of (sign_text negative ++ (p.whole ++ (marked 46 p.fraction ++ marked h.mark p.exponent))) ≡ some (parts_from negative p.whole p.fraction p.exponent)
     signed true =
         rw (eqb-suc-zero (length (p.whole ++ (marked 46 p.fraction ++ marked h.mark p.exponent))))
-        (whole_complete true p.whole p.fraction p.exponent h.mark (mark_of h.mark h.is-mark) h.whole-digits h.whole-written h.fraction-digits h.exponent-digits)
+        (whole_complete true p.whole p.fraction p.exponent h.mark (mark_of h.mark h.mark_is) h.whole_digits_law h.whole_written h.fraction_digits_law h.exponent_digits)
     signed false =
-        rw (digits_begin p.whole (marked 46 p.fraction ++ marked h.mark p.exponent) h.whole-digits h.whole-written)
-        (whole_complete false p.whole p.fraction p.exponent h.mark (mark_of h.mark h.is-mark) h.whole-digits h.whole-written h.fraction-digits h.exponent-digits)
+        rw (digits_begin p.whole (marked 46 p.fraction ++ marked h.mark p.exponent) h.whole_digits_law h.whole_written)
+        (whole_complete false p.whole p.fraction p.exponent h.mark (mark_of h.mark h.mark_is) h.whole_digits_law h.whole_written h.fraction_digits_law h.exponent_digits)
 
 -- a text that is read as nothing has no parts
 pub none_spells : (s : List ℕ) → parts_of s ≡ none → (p : Parts) → Spells s p → ⊥

@@ -3,6 +3,8 @@
 //
 // specs/Grammar.antt says what a number's text is, specs/Reading.antt what is read of it,
 // specs/Limits.antt the limits, each of which is one constant here.
+#![tactic(auto)]
+
 ghost use Rattle.std.specs.Prelude.{◌≡◌, ◌≤◌};
 ghost use Rattle.decimal.specs.Digits.{AllDigits};
 ghost use Rattle.number.specs.Limits.{max_exponent};

@@ -198,7 +198,7 @@ tokens_front (suc n) a (b ∷ s) before t after h e =
         record {
           size = piece_len (b ∷ s) + r.size;
           place = r.place ∙ omega arith;
-          tokens_are = front_turn a (piece_len (b ∷ s)) r.size (b ∷ s) (omega arith) refl ∙ ap (λ (w : Bool). pieced w a (take (piece_len (b ∷ s)) (b ∷ s)) (tokens (a + piece_len (b ∷ s)) (take r.size (drop (piece_len (b ∷ s)) (b ∷ s))))) q ∙ r.tokens-are;
+          tokens_are = front_turn a (piece_len (b ∷ s)) r.size (b ∷ s) (omega arith) refl ∙ ap (λ (w : Bool). pieced w a (take (piece_len (b ∷ s)) (b ∷ s)) (tokens (a + piece_len (b ∷ s)) (take r.size (drop (piece_len (b ∷ s)) (b ∷ s))))) q ∙ r.tokens_are;
         }
     go false q [] e f =
         let z : t ≡ record { at = a; text = take (piece_len (b ∷ s)) (b ∷ s) } = cc in
@@ -213,7 +213,7 @@ tokens_front (suc n) a (b ∷ s) before t after h e =
           tokens_are =
               front_turn a (piece_len (b ∷ s)) r.size (b ∷ s) (omega arith) refl
               ∙ ap (λ (w : Bool). pieced w a (take (piece_len (b ∷ s)) (b ∷ s)) (tokens (a + piece_len (b ∷ s)) (take r.size (drop (piece_len (b ∷ s)) (b ∷ s))))) q
-              ∙ ap (λ (l : List Token). record { at = a; text = take (piece_len (b ∷ s)) (b ∷ s) } ∷ l) r.tokens-are ∙ ap (λ (v : Token). v ∷ before) (sym y);
+              ∙ ap (λ (l : List Token). record { at = a; text = take (piece_len (b ∷ s)) (b ∷ s) } ∷ l) r.tokens_are ∙ ap (λ (v : Token). v ∷ before) (sym y);
         }
 
 -- ---- a text, a space, and another text: the tokens of both
@@ -344,7 +344,7 @@ ends_well x e =
 pub some_pack : (s : Text) (a : ℕ) (c : Culprit (tokens 0 s) a) → PackWith (texts c.before)
 some_pack s a c =
     let f = tokens_front (length s) 0 s c.before c.token c.after (omega arith) c.is in
-    let e = f.tokens-are in
+    let e = f.tokens_are in
     subst (λ (l : List Token). PackWith (texts l)) e
     (ends_well (take f.size s) (subst (λ (l : List Token). is_dead (far outset (texts l)).state ≡ false) (sym e) (begins_alive (texts c.before) c.some)))
 

@@ -233,7 +233,7 @@ segment_rule_law x r g e = ap (λ (l : List Text). rule_of (or_any (ends (steps 
 pub rules_are : {xs : List Text} {rs : List Rule} → AreRules xs rs → rs ≡ map segment_rule xs
 rules_are none = refl
 rules_are (more {x = x} {r = r} {xs = xs} {rs = rs} w d) =
-    ap (λ (q : Rule). q ∷ rs) (w.stands-for ∙ sym (segment_rule_law x w.tree w.right w.tokens-are))
+    ap (λ (q : Rule). q ∷ rs) (w.stands_for ∙ sym (segment_rule_law x w.tree w.right w.tokens_are))
     ∙ ap (λ (l : List Rule). segment_rule x ∷ l) (rules_are d)
 
 -- segments without a fault are rules

@@ -208,7 +208,7 @@ snoc_eq (x ∷ rs) (y ∷ qs) r q e =
 
 pub one_tree : (s : Text) (p q : PackTree) → Pack s p → Pack s q → p ≡ q
 one_tree s (Parted rs r) (Parted qs q) x y =
-    let k = sym (pack_halts s (Parted rs r) x.right x.tokens-are) ∙ pack_halts s (Parted qs q) y.right y.tokens-are in
+    let k = sym (pack_halts s (Parted rs r) x.right x.tokens_are) ∙ pack_halts s (Parted qs q) y.right y.tokens_are in
     snoc_eq rs qs r q (trees_eq k)
 
 -- ---- 22 to 26: the earliest of those that fall, then the lowest
@@ -267,8 +267,8 @@ rows_22_26 s n a lo hi = (to, from)
     from : Faulty s n a → read_pack s ≡ refused_at (row_of n) a
     from w =
         let p = w.pack in
-        let r = formed_trees (tokens 0 s) (length s) (w.tree, p.right, p.tokens-are) in
-        let e = (fault_earliest s w.tree p.right p.tokens-are n a).1 w.given in
+        let r = formed_trees (tokens 0 s) (length s) (w.tree, p.right, p.tokens_are) in
+        let e = (fault_earliest s w.tree p.right p.tokens_are n a).1 w.given in
         short_told s p.short ∙ rw (r.1, e)
 
 -- ---- rules
@@ -301,5 +301,5 @@ read_rules s rs = (to, from)
     from : Tree s rs → read_pack s ≡ Rules rs
     from w =
         let p = w.pack in
-        let c = (clean_reading (tokens 0 s) w.tree p.right p.tokens-are).0 w.within in
-        short_told s p.short ∙ rw (pack_halts s w.tree p.right p.tokens-are, c) (ap Rules (sym w.rules))
+        let c = (clean_reading (tokens 0 s) w.tree p.right p.tokens_are).0 w.within in
+        short_told s p.short ∙ rw (pack_halts s w.tree p.right p.tokens_are, c) (ap Rules (sym w.rules))

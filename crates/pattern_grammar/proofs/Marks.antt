@@ -38,10 +38,10 @@ module _ (m : Mark) (word : List ℕ) (w : Stands m word) where
   bare_weighed n b s l e ih =
       let p = bare_parts b e in
       tested (starts permille (b ∷ s))
-      (λ k. rw (p.0, k) (omega (arith, w.at-permille b s k, ih false 2 (permille_highs b s k))))
+      (λ k. rw (p.0, k) (omega (arith, w.at_permille b s k, ih false 2 (permille_highs b s k))))
       (λ k.
       tested (starts currency (b ∷ s))
-      (λ c. rw (p.0, k, c) (omega (arith, w.at-currency b s c, ih false 1 (currency_highs b s c))))
+      (λ c. rw (p.0, k, c) (omega (arith, w.at_currency b s c, ih false 1 (currency_highs b s c))))
       (λ c. rw (p.0, k, c, bare_kept n b) (omega (arith, w.at_byte n b s k, ih (is_number (bare_of n b)) 0 refl))))
 
   weighed : {q : Bool} {s : List ℕ} (a : IsAffix q s) → (n : Bool) (k : ℕ) → highs k s ≡ true → (q ≡ true → k ≡ 0)

@@ -70,8 +70,8 @@ module _ (a r : List ℕ) (w : IsSub a) (e : ends r ≡ true) where
         primary = ap primary_of l;
         secondary = ap secondary_of l;
         step = ap step_of d.part ∙ step_is w.number p;
-        percents = marks_read Percent ∙ rw ((marks_bare w.prefix-is).0, (marks_bare w.suffix-is).0);
-        permilles = marks_read Permille ∙ rw ((marks_bare w.prefix-is).1, (marks_bare w.suffix-is).1);
+        percents = marks_read Percent ∙ rw ((marks_bare w.prefix_is).0, (marks_bare w.suffix_is).0);
+        permilles = marks_read Permille ∙ rw ((marks_bare w.prefix_is).1, (marks_bare w.suffix_is).1);
       }
 
 pub alone_meant : (s : List ℕ) (w : IsSub s) → Meant w (half_of s)

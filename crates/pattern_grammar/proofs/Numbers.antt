@@ -73,9 +73,9 @@ units_fraction n f p =
     let m = p.marks in
     let k = value_from n (map as_zero d) in
     ap (units_from n) p.text
-    ∙ (units_figures AllDigits digit n d m p.figures-are
+    ∙ (units_figures AllDigits digit n d m p.figures_are
     ∙ (ap (units_from k) (sym (append-nil m))
-    ∙ (units_figures AllHashes hash k m [] p.marks-are
+    ∙ (units_figures AllHashes hash k m [] p.marks_are
     ∙ (sym (value_append n (map as_zero d) (map as_zero m))
     ∙ (ap (value_from n) (sym (map_append as_zero d m)) ∙ ap (λ (l : List ℕ). value_from n (map as_zero l)) (sym p.text))))))
   where
@@ -102,4 +102,4 @@ units_sides (pointed {w} {f}) o p =
 -- "read the number part with `#` as 0 and commas dropped": the point is passed over
 pub step_is : (n : List ℕ) (p : IsPart n) → step_of n ≡ step_in p
 step_is n p =
-    ap (λ (u : ℕ). if eqb u 0 then 1 else u) (units_sides p.sides (whole_ordered p.whole p.whole_is) p.fraction-is)
+    ap (λ (u : ℕ). if eqb u 0 then 1 else u) (units_sides p.sides (whole_ordered p.whole p.whole_is) p.fraction_is)

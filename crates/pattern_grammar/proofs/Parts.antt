@@ -51,8 +51,8 @@ ordered_more q b w ih e = tested (eqb b 44) comma other
           marks = b ∷ o.marks;
           figures = o.figures;
           text = ap (λ (l : List ℕ). b ∷ l) o.text;
-          marks_are = of_cons is_hash b o.marks h o.marks-are;
-          figures_are = o.figures-are;
+          marks_are = of_cons is_hash b o.marks h o.marks_are;
+          figures_are = o.figures_are;
           none = λ t. not_both t f;
         }
 
@@ -65,7 +65,7 @@ ordered_more q b w ih e = tested (eqb b 44) comma other
           figures = b ∷ o.figures;
           text = ap (λ (l : List ℕ). b ∷ l) t;
           marks_are = refl;
-          figures_are = of_cons is_digit b o.figures d o.figures-are;
+          figures_are = of_cons is_digit b o.figures d o.figures_are;
           none = λ _. refl;
         }
 
@@ -119,7 +119,7 @@ ordered_back q b w ih o = tested (eqb b 44) comma other
     other : eqb b 44 ≡ false → ordered q (b ∷ w) ≡ true
     other k =
         let p : Ordered q (b ∷ drop_commas w) = rw k at o in
-        split k p.marks p.figures p.text p.marks-are p.figures-are p.none
+        split k p.marks p.figures p.text p.marks_are p.figures_are p.none
 
 ordered_complete : (q : Bool) (w : List ℕ) → Ordered q (drop_commas w) → ordered q w ≡ true
 ordered_complete q [] o = refl
@@ -173,7 +173,7 @@ whole_sound w e = tested (begins 44 w) (λ k. not_both e (rw k)) rest
         yes a =
             let o = ordered_sound false w (rw (k, a) at e) in
             record {
-              places = record { marks = o.marks; figures = o.figures; text = o.text; marks_are = o.marks-are; figures_are = o.figures-are };
+              places = record { marks = o.marks; figures = o.figures; text = o.text; marks_are = o.marks_are; figures_are = o.figures_are };
               not_first = k;
               apart = apart_sound w a;
             }
@@ -182,7 +182,7 @@ pub whole_ordered : (w : List ℕ) → IsWhole w → ordered false w ≡ true
 whole_ordered w p =
     let l = p.places in
     ordered_complete false w
-    (record { marks = l.marks; figures = l.figures; text = l.text; marks_are = l.marks-are; figures_are = l.figures-are; none = λ y. not_both y refl })
+    (record { marks = l.marks; figures = l.figures; text = l.text; marks_are = l.marks_are; figures_are = l.figures_are; none = λ y. not_both y refl })
 
 pub whole_complete : (w : List ℕ) → IsWhole w → whole_fits w ≡ true
 whole_complete w p = rw (p.not_first, apart_complete w p.apart) (whole_ordered w p)
@@ -204,10 +204,10 @@ hashes_run (b ∷ m) e = rw (hash_no_digit b (of_head is_hash b m e).0)
 pub fraction_complete : (f : List ℕ) → IsFraction f → fraction_fits f ≡ true
 fraction_complete f p =
     let r : run f ≡ length p.figures =
-    rw p.text (run_append is_digit p.figures p.marks p.figures-are ∙ omega (arith, hashes_run p.marks p.marks-are)) in
+    rw p.text (run_append is_digit p.figures p.marks p.figures_are ∙ omega (arith, hashes_run p.marks p.marks_are)) in
     let d : drop (run f) f ≡ p.marks = rw (r, p.text) (drop_at p.figures p.marks (length p.figures) refl) in
     let n : length f ≡ length p.figures + length p.marks = rw p.text (length-append p.figures p.marks) in
-    eq-eqb (run f + hashes (drop (run f) f)) (length f) (rw d (omega (arith, r, n, p.marks-are)))
+    eq-eqb (run f + hashes (drop (run f) f)) (length f) (rw d (omega (arith, r, n, p.marks_are)))
 
 -- ---- the whole part
 
@@ -251,8 +251,8 @@ part_sides n p = sides_read p.sides (whole_ordered p.whole p.whole_is)
 pub number_complete : (n : List ℕ) → IsPart n → number_fits n ≡ true
 number_complete n p =
     let d = part_sides n p in
-    rw (lt-ltb 0 (digits n) p.some-digit, d.0, d.1, whole_complete p.whole p.whole_is)
-    (fraction_complete p.fraction p.fraction-is)
+    rw (lt-ltb 0 (digits n) p.some_digit, d.0, d.1, whole_complete p.whole p.whole_is)
+    (fraction_complete p.fraction p.fraction_is)
 
 -- a point is found where the first one stands
 until_point : (n : List ℕ) → until 46 n < length n → get_or n (until 46 n) 0 ≡ 46

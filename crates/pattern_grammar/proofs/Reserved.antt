@@ -193,7 +193,7 @@ e_met b t p =
 
 met : {s r : List ℕ} → Bare false s r → Met r → any_reserved (items s) ≡ true
 unfolding highs
-met a m = reached a m.outer m.items-there false 0 refl (λ _. refl)
+met a m = reached a m.outer m.items_there false 0 refl (λ _. refl)
 
 reserved_items : {s : List ℕ} → Reserved s → any_reserved (items s) ≡ true
 reserved_items (sign r x y) = met x (⊎_elim (currency_met r) (⊎_elim (star_met r) (at_met r)) y)

@@ -65,8 +65,8 @@ fraction_places : (f r : List ℕ) → IsFraction f → places (f ++ r) ≡ leng
 fraction_places f r p =
     let e : places ((p.figures ++ p.marks) ++ r) ≡ length (p.figures ++ p.marks) + places r =
     ap places (append_assoc p.figures p.marks r)
-    ∙ (digits_places p.figures (p.marks ++ r) p.figures-are
-    ∙ omega (arith, hashes_places p.marks r p.marks-are, length-append p.figures p.marks)) in
+    ∙ (digits_places p.figures (p.marks ++ r) p.figures_are
+    ∙ omega (arith, hashes_places p.marks r p.marks_are, length-append p.figures p.marks)) in
     rw p.text e
 
 sides_places : {n w f : List ℕ} → Sides n w f → ordered false w ≡ true → IsFraction f → (r : List ℕ) → places (n ++ r) ≡ length n + places r
@@ -77,7 +77,7 @@ sides_places (pointed {w} {f}) o p r =
     ∙ omega (arith, fraction_places f r p, length-append w (46 ∷ f)))
 
 part_places : (n r : List ℕ) → IsPart n → places (n ++ r) ≡ length n + places r
-part_places n r p = sides_places p.sides (whole_ordered p.whole p.whole_is) p.fraction-is r
+part_places n r p = sides_places p.sides (whole_ordered p.whole p.whole_is) p.fraction_is r
 
 some_length : (n : List ℕ) → 0 < digits n → 0 < length n
 some_length [] h = h
@@ -92,7 +92,7 @@ places_stop (b ∷ s) h =
     no g = omega arith
 
 part_stops : (n r : List ℕ) → IsPart n → stops (n ++ r) ≡ true
-part_stops n r p = places_stop (n ++ r) (omega (arith, part_places n r p, some_length n p.some-digit))
+part_stops n r p = places_stop (n ++ r) (omega (arith, part_places n r p, some_length n p.some_digit))
 
 -- ---- the end of a subpattern: the end of the text, or a semicolon
 
@@ -155,7 +155,7 @@ read_sub a r w e =
     let p = w.prefix in
     let n = w.number in
     let x = w.suffix in
-    subst (λ (s : List ℕ). Read s p n x) (sym (sub_before a r w)) (read_parts p n x r w.prefix-is w.number_is w.suffix-is e)
+    subst (λ (s : List ℕ). Read s p n x) (sym (sub_before a r w)) (read_parts p n x r w.prefix_is w.number_is w.suffix_is e)
 
 pub read_end : (a r : List ℕ) (w : IsSub a) → ends r ≡ true → end_of (half_of (a ++ r)) ≡ length a
 read_end a r w e =

@@ -156,7 +156,7 @@ not_formed : (s : List ℕ) → (IsPattern s → ⊥) → well_formed s ≡ fals
 not_formed s f = tested (well_formed s) (λ k. absurd (f (pattern_sound s k))) (λ k. k)
 
 judged_read : (s : List ℕ) (w : IsPattern s) → Plain s → read_pattern s ≡ judged_rest (grounds w).first (grounds w).second (grounds w).negative
-judged_read s w p = plain_read s p ∙ (grounds w).judged-by
+judged_read s w p = plain_read s p ∙ (grounds w).judged_by
 
 -- the rows of two subpatterns that have the grammar
 module _ (a b : Half) (n : Negative) where

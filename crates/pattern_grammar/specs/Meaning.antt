@@ -48,7 +48,7 @@ bare_count mark (bare {b = b} {t = t} e a) = (if starts mark (b ∷ t) then 1 el
 
 -- and in both affixes of a subpattern
 abbrev pub marks_in : {s : List ℕ} → List ℕ → IsSub s → ℕ
-marks_in mark w = bare_count mark w.prefix-is + bare_count mark w.suffix-is
+marks_in mark w = bare_count mark w.prefix_is + bare_count mark w.suffix_is
 
 -- "`%` multiplies by 100, `‰` by 1000"
 abbrev pub factor_in : {s : List ℕ} → IsSub s → ℕ

@@ -42,10 +42,10 @@ ready_within s t p n ep en =
     let a = admitted t n en in
     fits_within p.step p.factor p.most n.i n.v.0 n.f.0
     (record {
-      step_least = b.step-least;
-      step_most = b.step-most;
+      step_least = b.step_least;
+      step_most = b.step_most;
       factor_most = read_factor s p ep;
-      most_most = b.most-most;
+      most_most = b.most_most;
       integer_most = omega (arith, a.whole);
       places_most = a.places;
       fraction_most = omega (arith, a.fraction, power_mono {i = n.v.0} {j = 9} a.places);

@@ -48,11 +48,11 @@ literal_token : (b : ℕ) (s : List ℕ) → is_literal b s ≡ true → reserve
     → token_at false false (b ∷ s) ≡ token (Text b) 1
 literal_token b s e u =
     let x = literal_parts b s e in
-    let y = bare_parts b x.is-bare in
-    tested (starts currency (b ∷ s)) (λ k. not_both (rw (y.0, x.no-permille, k)) u)
+    let y = bare_parts b x.is_bare_law in
+    tested (starts currency (b ∷ s)) (λ k. not_both (rw (y.0, x.no_permille, k)) u)
     (λ k.
-    tested (is_reserved false b) (λ l. not_both (rw (y.0, x.no-permille, k, y.1, x.no-percent, x.no_plus, x.no_minus, y.2, l)) u)
-    (λ l. rw (y.0, x.no-permille, k, y.1, x.no-percent, x.no_plus, x.no_minus, y.2, l)))
+    tested (is_reserved false b) (λ l. not_both (rw (y.0, x.no_permille, k, y.1, x.no_percent, x.no_plus, x.no_minus, y.2, l)) u)
+    (λ l. rw (y.0, x.no_permille, k, y.1, x.no_percent, x.no_plus, x.no_minus, y.2, l)))
 
 first_free : (q : Bool) (b : ℕ) (s : List ℕ) → any_reserved (items_from q false 0 (b ∷ s)) ≡ false → reserves (token_at q false (b ∷ s)).item ≡ false
 first_free q b s u = tested (reserves (token_at q false (b ∷ s)).item) (λ k. not_both (rw k) u) (λ k. k)
@@ -147,5 +147,5 @@ module _ (symbol : Symbol → List ℕ) where
   pub affix_text_law : {s : List ℕ} → CleanAffix s → (t : List ℕ) → AffixText symbol false s t ↔ (t ≡ rendered symbol (items s))
   affix_text_law {s} c t = (
     λ a. affix_rendered a c.unreserved,
-    λ e. subst (AffixText symbol false s) (sym e) (affix_prints c.is-affix 0 (λ _. refl) refl c.unreserved),
+    λ e. subst (AffixText symbol false s) (sym e) (affix_prints c.is_affix 0 (λ _. refl) refl c.unreserved),
   )

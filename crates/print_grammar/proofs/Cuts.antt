@@ -158,7 +158,7 @@ places_stop (b ∷ s) h = tested (is_place b) (λ k. rw k) (λ k. absurd (no (rw
     no g = omega arith
 
 part_some : (n : List ℕ) → IsPart n → 0 < length n
-part_some [] p = p.some-digit
+part_some [] p = p.some_digit
 part_some (b ∷ n) p = omega arith
 
 ends_stop : (r : List ℕ) → ends r ≡ true → stops r ≡ true
@@ -188,9 +188,9 @@ sub_clean a r w e n u =
     ap (λ (k : ℕ). drop k (a ++ r)) d.prefix ∙ (ap (drop (length p)) t ∙ drop_at p (m ++ (x ++ r)) (length p) refl) in
     let l : places (m ++ (x ++ r)) ≡ length m = ap places (sym c) ∙ d.number in
     let s : stops (m ++ (x ++ r)) ≡ true = places_stop (m ++ (x ++ r)) (omega (arith, part_some m w.number_is)) in
-    let first = cut_clean p (m ++ (x ++ r)) w.prefix-is s n (rw t at u) in
+    let first = cut_clean p (m ++ (x ++ r)) w.prefix_is s n (rw t at u) in
     let part = places_cut (length m) first.1.0 (m ++ (x ++ r)) (omega arith) first.1.1 in
-    let last = cut_clean x r w.suffix-is (ends_stop r e) part.0 (rw (drop_at m (x ++ r) (length m) refl) at part.1) in
+    let last = cut_clean x r w.suffix_is (ends_stop r e) part.0 (rw (drop_at m (x ++ r) (length m) refl) at part.1) in
     (first.0, last.0, last.1)
 
 -- ---- the affixes of a pattern that is read
@@ -200,7 +200,7 @@ pattern_affixes (one {s} w) u p e =
     let d = one_read s w p e in
     let c = sub_clean s [] w refl false (rw append-nil u) in
     record {
-      positive = record { prefix = rw d.0.prefix-text c.0; suffix = rw d.0.suffix-text c.1 };
+      positive = record { prefix = rw d.0.prefix_text c.0; suffix = rw d.0.suffix_text c.1 };
       negative = λ before behind o. let z : ◌≡◌ {A = ℕ} 0 1 = cc d.1 in never z;
     }
 pattern_affixes (two {a} {b} w v) u p e =
@@ -208,7 +208,7 @@ pattern_affixes (two {a} {b} w v) u p e =
     let c = sub_clean a (59 ∷ b) w refl false u in
     let f = sub_clean b [] v refl false (rw append-nil c.2.1) in
     record {
-      positive = record { prefix = rw d.0.prefix-text c.0; suffix = rw d.0.suffix-text c.1 };
+      positive = record { prefix = rw d.0.prefix_text c.0; suffix = rw d.0.suffix_text c.1 };
       negative = λ before behind o. own d.1 o f.0 f.1;
     }
   where
@@ -217,7 +217,7 @@ pattern_affixes (two {a} {b} w v) u p e =
     own {before = before} {behind = behind} x o y z =
         let i : x.before ≡ before = cc x.own in
         let j : x.behind ≡ behind = cc x.own in
-        record { prefix = rw (sym i, x.prefix-text) y; suffix = rw (sym j, x.suffix-text) z }
+        record { prefix = rw (sym i, x.prefix_text) y; suffix = rw (sym j, x.suffix_text) z }
 
 pub pattern_clean : (s : List ℕ) (p : Pattern) → read_pattern s ≡ Is p → PatternClean s p
 pattern_clean s p e = let r = read_plain s p e in pattern_affixes r.1 (plain_items s r.0) p e

@@ -32,10 +32,10 @@ ends_sound p q left e =
 ends_complete : (primary secondary left : ℕ) → 0 < secondary → GroupEnds primary secondary left → mark primary secondary left ≡ true
 ends_complete p q left h g =
     let k = g.groups in
-    let e : left - p ≡ k * q + 0 = omega (arith, g.to-come) in
+    let e : left - p ≡ k * q + 0 = omega (arith, g.to_come) in
     let z : (left - p) % q ≡ 0 = ap (λ (n : ℕ). n % q) e ∙ digits_mod k h in
     let t = eq-eqb ((left - p) % q) 0 z in
-    rw (ne_eqb p 0 (λ n. no g.some n), le-ltb left p (omega (arith, g.to-come))) t
+    rw (ne_eqb p 0 (λ n. no g.some n), le-ltb left p (omega (arith, g.to_come))) t
   where
     no : {n : ℕ} → 0 < n → n ≡ 0 → ⊥
     no a b = omega arith
@@ -94,8 +94,8 @@ ends_in zero g p q [] b d hp hq e =
 ends_in zero g p q (a ∷ x) b d hp hq e =
     let r = ends_in zero g p q x b d hp hq e in
     tested (mark p q (length (x ++ (b ∷ d))))
-    (λ k. record { front = spell zero a ++ (g ++ r.front); is_text = rw k (ap (λ (l : List ℕ). spell zero a ++ (g ++ l)) r.is-text ∙ (simp append_assoc)) })
-    (λ k. record { front = spell zero a ++ r.front; is_text = rw k (ap (λ (l : List ℕ). spell zero a ++ l) r.is-text ∙ (simp append_assoc)) })
+    (λ k. record { front = spell zero a ++ (g ++ r.front); is_text = rw k (ap (λ (l : List ℕ). spell zero a ++ (g ++ l)) r.is_text ∙ (simp append_assoc)) })
+    (λ k. record { front = spell zero a ++ r.front; is_text = rw k (ap (λ (l : List ℕ). spell zero a ++ l) r.is_text ∙ (simp append_assoc)) })
 
 pub grouped_last : (zero : ℕ) (g : List ℕ) (m p q : ℕ) (x : List ℕ) (b : ℕ) (d : List ℕ) → 0 < p → 0 < q → length d ≡ p
     → p + m ≤ length (x ++ (b ∷ d)) → Ends (grouped zero g (group_size m p (length (x ++ (b ∷ d)))) q (x ++ (b ∷ d))) (g ++ spelled zero d)

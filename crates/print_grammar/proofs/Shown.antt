@@ -120,11 +120,11 @@ module _ {least fraction most units : ℕ} {w f : List ℕ} (x : ShownDigits lea
   shown_parts =
       let a = 10 ^ length f in
       let b = 10 ^ (most - length f) in
-      let l : length f + (most - length f) ≡ most = omega (arith, x.fraction-most) in
+      let l : length f + (most - length f) ≡ most = omega (arith, x.fraction_most) in
       let m : 10 ^ most ≡ a * b = rw l at (pow-add 10 (length f) (most - length f)) in
       let v : value (w ++ f) ≡ value w * a + value f = value_append 0 w f ∙ value_from_law (value w) f in
       let u : units ≡ value w * (a * b) + value f * b = sym x.worth ∙ rw v (omega arith) in
-      let k : value f * b < a * b = omega (arith, mul-le-mul_right b (value_lt f x.fraction-digits), power_pos (most - length f)) in
+      let k : value f * b < a * b = omega (arith, mul-le-mul_right b (value_lt f x.fraction_digits_law), power_pos (most - length f)) in
       rw (u, m) (sym (digits_div (value w) k), sym (digits_mod (value w) k))
 
 module _ {least fraction most units : ℕ} {w f w' f' : List ℕ} (x : ShownDigits least fraction most units w f) (y : ShownDigits least fraction most units w' f') where
@@ -136,11 +136,11 @@ module _ {least fraction most units : ℕ} {w f w' f' : List ℕ} (x : ShownDigi
 
   whole_not_longer : length w < length w' → ⊥
   whole_not_longer h =
-      y.whole-spare (omega (arith, x.whole-least)) (longer_leads w w' x.whole-digits y.whole-digits same_whole h)
+      y.whole_spare (omega (arith, x.whole_least)) (longer_leads w w' x.whole_digits_law y.whole_digits_law same_whole h)
 
   fraction_not_longer : length f < length f' → ⊥
   fraction_not_longer h =
-      y.fraction-spare (omega (arith, x.fraction-least)) (longer_trails f f' most same_fraction h y.fraction-most)
+      y.fraction_spare (omega (arith, x.fraction_least)) (longer_trails f f' most same_fraction h y.fraction_most)
 
 pub shown_only : {least fraction most units : ℕ} {w f w' f' : List ℕ} → ShownDigits least fraction most units w f → ShownDigits least fraction most units w' f'
     → (w ≡ w') × (f ≡ f')
@@ -148,4 +148,4 @@ shown_only {most = most} {w = w} {f = f} {w' = w'} {f' = f'} x y =
     let m : length w ≡ length w' = omega (arith, whole_not_longer x y, whole_not_longer y x) in
     let n : length f ≡ length f' = omega (arith, fraction_not_longer x y, fraction_not_longer y x) in
     let e : value f ≡ value f' = power_cancel (value f) (value f') (most - length f') (rw n at (same_fraction x y)) in
-    (same_digits w w' x.whole-digits y.whole-digits m (same_whole x y), same_digits f f' x.fraction-digits y.fraction-digits n e)
+    (same_digits w w' x.whole_digits_law y.whole_digits_law m (same_whole x y), same_digits f f' x.fraction_digits_law y.fraction_digits_law n e)

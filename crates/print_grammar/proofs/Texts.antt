@@ -71,7 +71,7 @@ module _ (symbol : Symbol → List ℕ) (s : List ℕ) where
   affixes_are : {before behind : Span} {prefix suffix : List ℕ} → CleanAffixes s before behind → AffixesText symbol s before behind prefix suffix
       → (prefix ≡ affix_text symbol s before) × (suffix ≡ affix_text symbol s behind)
   affixes_are {prefix = prefix} {suffix = suffix} c a =
-      ((affix_text_law symbol c.prefix prefix).0 a.prefix-text, (affix_text_law symbol c.suffix suffix).0 a.suffix-text)
+      ((affix_text_law symbol c.prefix prefix).0 a.prefix_text, (affix_text_law symbol c.suffix suffix).0 a.suffix_text)
 
   affixes_made : {before behind : Span} → CleanAffixes s before behind → AffixesText symbol s before behind (affix_text symbol s before) (affix_text symbol s behind)
   affixes_made {before} {behind} c =
@@ -124,7 +124,7 @@ module _ (s t : List ℕ) (p : Pattern) (n : Number) (ep : read_pattern s ≡ Pa
       let u = units_in p n in
       let fits = within_fits p.step p.factor p.most n.i n.v.0 n.f.0 (ready_within s t p n ep en) in
       let worth : value (digits_of p n) ≡ u = value_room width u (units_room p.step p.factor p.most n.i n.v.0 n.f.0 fits) in
-      rw worth at (digits_shown p.least p.fraction p.most (digits_of p n) (digits_figures width u) (room p n b.least-most b.most-most) b.fraction-most)
+      rw worth at (digits_shown p.least p.fraction p.most (digits_of p n) (digits_figures width u) (room p n b.least_most b.most_most) b.fraction_most)
 
   module _ (symbol : Symbol → List ℕ) where
     text_printed : PrintedText symbol s p n (text_of symbol s p n)
@@ -136,12 +136,12 @@ module _ (s t : List ℕ) (p : Pattern) (n : Number) (ep : read_pattern s ≡ Pa
         let i = grouped zero_digit (symbol Group) (group_size (minimum_in symbol) p.primary (length w)) p.secondary w in
         record {
           units = units_in p n;
-          permitted = units_permitted p.step p.factor p.most n.i n.v.0 n.f.0 b.step-least;
+          permitted = units_permitted p.step p.factor p.most n.i n.v.0 n.f.0 b.step_least;
           whole = w;
           fraction = f;
           shown = digits_are_shown;
           integer = i;
-          is_grouped = (grouped_text zero_digit (symbol Group) (minimum_in symbol) p.primary p.secondary (length w) b.secondary-least w i).1 refl;
+          is_grouped = (grouped_text zero_digit (symbol Group) (minimum_in symbol) p.primary p.secondary (length w) b.secondary_least w i).1 refl;
           sign = sign_of symbol s a;
           prefix = affix_text symbol s a.prefix;
           suffix = affix_text symbol s a.suffix;
@@ -157,15 +157,15 @@ module _ (s t : List ℕ) (p : Pattern) (n : Number) (ep : read_pattern s ≡ Pa
         let f = fraction_digits p.fraction p.most (digits_of p n) in
         let i = grouped zero_digit (symbol Group) (group_size (minimum_in symbol) p.primary (length w)) p.secondary w in
         let u : x.units ≡ units_in p n =
-        permitted_only p.step p.factor p.most n.i n.v.0 n.f.0 x.units (units_in p n) b.step-least
-        x.permitted (units_permitted p.step p.factor p.most n.i n.v.0 n.f.0 b.step-least) in
+        permitted_only p.step p.factor p.most n.i n.v.0 n.f.0 x.units (units_in p n) b.step_least
+        x.permitted (units_permitted p.step p.factor p.most n.i n.v.0 n.f.0 b.step_least) in
         let d = shown_only (rw u at x.shown) digits_are_shown in
         let g : x.integer ≡ i =
-        (grouped_text zero_digit (symbol Group) (minimum_in symbol) p.primary p.secondary (length x.whole) b.secondary-least x.whole x.integer).0
-        x.is-grouped
+        (grouped_text zero_digit (symbol Group) (minimum_in symbol) p.primary p.secondary (length x.whole) b.secondary_least x.whole x.integer).0
+        x.is_grouped
         ∙ ap (λ (z : List ℕ). grouped zero_digit (symbol Group) (group_size (minimum_in symbol) p.primary (length z)) p.secondary z) d.0 in
         let r = around_are symbol s (pattern_clean s p ep) x.around in
-        x.is-text
+        x.is_text
         ∙ (rw (r.0, r.1, r.2, g, d.1)
         (sym (laid_out zero_digit (sign_of symbol s a) (affix_text symbol s a.prefix) i (point_before (symbol Decimal) f) f (affix_text symbol s a.suffix))))
 

@@ -264,13 +264,13 @@ within_fits step factor most i v f e =
 pub fits_within : (step factor most i v f : ℕ) → Fits step factor most i v f → within step factor most i v f ≡ true
 fits_within step factor most i v f x =
     rw (
-      le-ltb step 1 x.step-least,
-      le-ltb max_step step x.step-most,
-      le-ltb max_factor factor x.factor-most,
-      le-ltb max_places most x.most-most,
-      le-ltb max_integer i x.integer-most,
-      le-ltb max_places v x.places-most,
-    ) (le-leb f max_fraction x.fraction-most)
+      le-ltb step 1 x.step_least,
+      le-ltb max_step step x.step_most,
+      le-ltb max_factor factor x.factor_most,
+      le-ltb max_places most x.most_most,
+      le-ltb max_integer i x.integer_most,
+      le-ltb max_places v x.places_most,
+    ) (le-leb f max_fraction x.fraction_most)
 
 -- what is rounded is the number that was written
 pub rounded_is : (k n step s : ℕ) (d₁ d₂ : List ℕ) → n < 10 ^ k → d₁ ≡ figures k n → d₂ ≡ figures (length d₁) (steps_of s (value d₁) * step) → d₂ ≡ figures k (steps_of s n * step)
@@ -316,12 +316,12 @@ sum_room k a b n m h x y =
 pub units_room : (step factor most i v f : ℕ) → Fits step factor most i v f → units_of step factor most i v f < 10 ^ width
 units_room step factor most i v f x =
     le_lt (units_of step factor most i v f) (exact factor most i v f + step) (10 ^ width) (units_below step (exact factor most i v f) v)
-    (sum_room width 28 12 (exact factor most i v f) step (omega arith) (mul-le-mul (whole_most x) (scale_most x)) (omega (arith, x.step-most)))
+    (sum_room width 28 12 (exact factor most i v f) step (omega arith) (mul-le-mul (whole_most x) (scale_most x)) (omega (arith, x.step_most)))
   where
     whole_most : Fits step factor most i v f → i * 10 ^ v + f ≤ 10 ^ 28
     whole_most y =
-        let a : i * 10 ^ v ≤ max_integer * 10 ^ 9 = mul-le-mul y.integer-most (power_mono y.places-most) in
-        omega (arith, y.fraction-most)
+        let a : i * 10 ^ v ≤ max_integer * 10 ^ 9 = mul-le-mul y.integer_most (power_mono y.places_most) in
+        omega (arith, y.fraction_most)
 
     scale_most : Fits step factor most i v f → factor * 10 ^ most ≤ 10 ^ 12
-    scale_most y = mul-le-mul y.factor-most (power_mono y.most-most)
+    scale_most y = mul-le-mul y.factor_most (power_mono y.most_most)

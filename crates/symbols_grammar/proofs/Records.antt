@@ -214,7 +214,7 @@ found house y g = by (symbol_found house g y)
 pub found_four : (house : List ℕ) (y : Symbol) → read_symbols house ≡ Good → length (symbol_in house standard_record y) ≤ 4
 found_four house y g =
     let r = found house y g in
-    omega (arith, ap length r.its, r.is-entry.most, longest_four r.is-entry.symbol)
+    omega (arith, ap length r.its, r.is_entry.most, longest_four r.is_entry.symbol)
 
 -- a symbol that prints is one code point of UTF-8 that is no ASCII digit
 pub found_fits : (house : List ℕ) (y : Symbol) → read_symbols house ≡ Good → (y ≡ Minimum → ⊥) → body_fits (symbol_in house standard_record y) ≡ true
@@ -240,10 +240,10 @@ pub found_minimum : (house : List ℕ) → read_symbols house ≡ Good
     → let b = symbol_in house standard_record Minimum in (length b ≡ 1) × (1 ≤ get_or b 0 0) × (get_or b 0 0 ≤ 4)
 found_minimum house g =
     let r = found house Minimum g in
-    let s : r.is-entry.symbol ≡ Minimum = (of_told r.entry r.is-entry Minimum).0 r.of in
-    let m : length r.entry.body ≤ 1 = omega (arith, r.is-entry.most, ap longest s) in
+    let s : r.is_entry.symbol ≡ Minimum = (of_told r.entry r.is_entry Minimum).0 r.of in
+    let m : length r.entry.body ≤ 1 = omega (arith, r.is_entry.most, ap longest s) in
     let w = subst IsMinimum (sym r.its) (by r.has r.of) in
-    (omega (arith, ap length r.its, m, r.is-entry.least), w.least, w.most)
+    (omega (arith, ap length r.its, m, r.is_entry.least), w.least, w.most)
   where
     by : {e : Entry} → HasBody e → Of Minimum e → IsMinimum e.body
     by (text m w) q = absurd (m q)

@@ -73,7 +73,7 @@ body_is b f = tested (is_char b) (λ k. by (is_spelled b k) (rw k at f)) (λ k. 
 is_body : {b : List ℕ} → IsBody b → body_fits b ≡ true
 is_body {b} w =
     let x = w.scalar in
-    subst (λ (t : List ℕ). body_fits t ≡ true) (sym w.spelled) (fits (spell x) (spelled_is x w.is-scalar) (first_digit x ∙ w.no_digit))
+    subst (λ (t : List ℕ). body_fits t ≡ true) (sym w.spelled) (fits (spell x) (spelled_is x w.scalar_is) (first_digit x ∙ w.no_digit))
   where
     fits : (s : List ℕ) → is_char s ≡ true → is_digit (get_or s 0 0) ≡ false → body_fits s ≡ true
     fits s k d = rw (k, d)

@@ -107,7 +107,7 @@ module _ (x : ℕ) (r : List ℕ) where
       low =
           let b = 0xE0 + x / 4096 in
           tested (eqb b 0xE0)
-          (λ y. omega (arith, (second b).long-three (eqb-true b 0xE0 y), eqb-true b 0xE0 y))
+          (λ y. omega (arith, (second b).long_three (eqb-true b 0xE0 y), eqb-true b 0xE0 y))
           (λ y. omega (arith, low_plain b (eqb-false b 0xE0 y) (λ z. omega arith)))
 
       high : 0x80 + x / 64 % 64 ≤ high_second (0xE0 + x / 4096)
@@ -134,7 +134,7 @@ module _ (x : ℕ) (r : List ℕ) where
       low =
           let b = 0xF0 + x / 262144 in
           tested (eqb b 0xF0)
-          (λ y. omega (arith, (second b).long-four (eqb-true b 0xF0 y), eqb-true b 0xF0 y))
+          (λ y. omega (arith, (second b).long_four (eqb-true b 0xF0 y), eqb-true b 0xF0 y))
           (λ y. omega (arith, low_plain b (λ z. omega arith) (eqb-false b 0xF0 y)))
 
       high : 0x80 + x / 4096 % 64 ≤ high_second (0xF0 + x / 262144)
@@ -167,7 +167,7 @@ spell_three x b c d h k l m p q e =
     let c-least : 0x80 ≤ c = omega (arith, s.least) in
     let c-most : c ≤ 0xBF = omega (arith, s.most) in
     let long : 0x800 ≤ x =
-    tested (eqb b 0xE0) (λ y. omega (arith, s.long-three (eqb-true b 0xE0 y), eqb-true b 0xE0 y)) (λ y. above y) in
+    tested (eqb b 0xE0) (λ y. omega (arith, s.long_three (eqb-true b 0xE0 y), eqb-true b 0xE0 y)) (λ y. above y) in
     let u : 0xE0 + x / 4096 ≡ b = omega arith in
     let v : 0x80 + x / 64 % 64 ≡ c = omega arith in
     let w : 0x80 + x % 64 ≡ d = omega arith in
@@ -199,7 +199,7 @@ spell_four x b c d f h k l m p q i j e =
     let c-least : 0x80 ≤ c = omega (arith, s.least) in
     let c-most : c ≤ 0xBF = omega (arith, s.most) in
     let long : 0x10000 ≤ x =
-    tested (eqb b 0xF0) (λ y. omega (arith, s.long-four (eqb-true b 0xF0 y), eqb-true b 0xF0 y))
+    tested (eqb b 0xF0) (λ y. omega (arith, s.long_four (eqb-true b 0xF0 y), eqb-true b 0xF0 y))
     (λ y. more b (eqb-false b 0xF0 y) h e) in
     let below : x < 0x110000 =
     tested (eqb b 0xF4) (λ y. omega (arith, s.end (eqb-true b 0xF4 y), eqb-true b 0xF4 y)) (λ y. less b (eqb-false b 0xF4 y) k c-most e) in

@@ -15,7 +15,7 @@ returns : tie.Need-returns
 returns c =
     let a = c.before.args in
     let T = table a.columns.now a.low.now a.high.now in
-    alone_is c.least-from.result (joined_in T a.s) (c.least-from.ensures ∙ alone_ready T a.s c.before.requires.0 c.before.requires.1)
+    alone_is c.least_from.result (joined_in T a.s) (c.least_from.ensures ∙ alone_ready T a.s c.before.requires.0 c.before.requires.1)
 
 pub alone-of-spec : {M : Type 1} → statement M
 alone-of-spec = tie.close (tie.spec least-from-requires returns)

@@ -22,7 +22,7 @@ returns c =
     let T = table a.columns.now a.low.now a.high.now in
     let x = joined_in T a.s in
     let d = bounded a.b x in
-    part_crowded d a.vs a.ws c.before.before.before.requires.1 c.before.before.least-f.result c.before.least-room.result (c.before.before.least-f.ensures ∙ bounded_f a.b x) c.before.least-room.ensures.0 (search rules)
+    part_crowded d a.vs a.ws c.before.before.before.requires.1 c.before.before.least_f.result c.before.least_room.result (c.before.before.least_f.ensures ∙ bounded_f a.b x) c.before.least_room.ensures.0 (search rules)
 
 zeros-of-requires : tie.Need-zeros-of-requires
 zeros-of-requires c κs = search rules
@@ -34,7 +34,7 @@ code-of-requires : tie.Need-code-of-requires
 code-of-requires c κs =
     let a = c.before.before.before.before.before.args in
     let T = table a.columns.now a.low.now a.high.now in
-    (c.before.before.before.least-room.ensures.1, f_most c.before.before.before.before.least-f.result (joined_in T a.s) c.before.before.before.before.least-f.ensures)
+    (c.before.before.before.least_room.ensures.1, f_most c.before.before.before.before.least_f.result (joined_in T a.s) c.before.before.before.before.least_f.ensures)
 
 returns-2 : tie.Need-returns-2
 returns-2 c =
@@ -42,7 +42,7 @@ returns-2 c =
     let T = table a.columns.now a.low.now a.high.now in
     let x = joined_in T a.s in
     let d = bounded a.b x in
-    part_reached d a.vs a.ws c.before.before.before.before.before.before.before.requires.1 c.before.before.before.before.before.before.least-f.result c.before.before.before.before.before.least-room.result (c.before.before.before.before.before.before.least-f.ensures ∙ bounded_f a.b x) c.before.before.before.before.before.least-room.ensures.0 c.before.before.before.zeros_of.result c.before.before.tail-code.result c.before.before.before.zeros_of.ensures.0 c.before.before.tail-code.ensures (omega (arith, c.if2.true, c.before.code_of_lem.ensures))
+    part_reached d a.vs a.ws c.before.before.before.before.before.before.before.requires.1 c.before.before.before.before.before.before.least_f.result c.before.before.before.before.before.least_room.result (c.before.before.before.before.before.before.least_f.ensures ∙ bounded_f a.b x) c.before.before.before.before.before.least_room.ensures.0 c.before.before.before.zeros_of.result c.before.before.tail_code.result c.before.before.before.zeros_of.ensures.0 c.before.before.tail_code.ensures (omega (arith, c.if2.true, c.before.code_of_lem.ensures))
 
 least-code-requires : tie.Need-least-code-requires
 least-code-requires c κs = search rules

@@ -58,7 +58,7 @@ loop-again c =
     let T = table a.columns.now a.low.now a.high.now in
     let x = joined_in T a.s in
     let d = bounded a.b x in
-    (omega (arith, c.before.before.before.loop-test.true), part_more d c.before.before.before.before.loop.best c.before.tail-code.result c.lesser.result c.before.before.before.before.loop.k c.before.before.before.before.loop.invariant.1 c.before.tail-code.ensures c.lesser.ensures)
+    (omega (arith, c.before.before.before.loop-test.true), part_more d c.before.before.before.before.loop.best c.before.tail_code.result c.lesser.result c.before.before.before.before.loop.k c.before.before.before.before.loop.invariant.1 c.before.tail_code.ensures c.lesser.ensures)
 
 returns-2 : tie.Need-returns-2 invariant-loop decreases-loop
 returns-2 c =

@@ -16,7 +16,7 @@ returns : tie.Need-returns
 returns c =
     let a = c.before.args in
     let T = table a.columns.now a.low.now a.high.now in
-    f_is c.least-from.result (joined_in T a.s) (c.least-from.ensures ∙ f_ready T a.s c.before.requires.0 c.before.requires.1)
+    f_is c.least_from.result (joined_in T a.s) (c.least_from.ensures ∙ f_ready T a.s c.before.requires.0 c.before.requires.1)
 
 pub least-f-spec : {M : Type 1} → statement M
 least-f-spec = tie.close (tie.spec least-from-requires returns)

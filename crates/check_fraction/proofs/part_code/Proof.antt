@@ -36,7 +36,7 @@ least-code-requires c κs =
     let T = table a.columns.now a.low.now a.high.now in
     let x = joined_in T a.s in
     let d = bounded a.b x in
-    ((c.before.before.before.before.before.before.requires.0.0, c.before.before.before.before.before.before.requires.0.1, c.before.before.before.before.before.Alone-of.ensures, sym c.if2.true ∙ c.before.spares-f.ensures d c.before.before.before.before.before.before.requires.1), profile_settled d a.p c.before.before.before.before.before.before.requires.1 _ _ c.before.before.before.v-of.ensures c.before.before.w-of.ensures)
+    ((c.before.before.before.before.before.before.requires.0.0, c.before.before.before.before.before.before.requires.0.1, c.before.before.before.before.before.Alone-of.ensures, sym c.if2.true ∙ c.before.spares-f.ensures d c.before.before.before.before.before.before.requires.1), profile_settled d a.p c.before.before.before.before.before.before.requires.1 _ _ c.before.before.before.v_of.ensures c.before.before.w_of.ensures)
 
 returns-2 : tie.Need-returns-2
 returns-2 c = search rules
@@ -47,7 +47,7 @@ asked-code-requires c κs =
     let T = table a.columns.now a.low.now a.high.now in
     let x = joined_in T a.s in
     let d = bounded a.b x in
-    ((c.before.before.before.before.before.before.requires.0.0, c.before.before.before.before.before.before.requires.0.1, c.before.before.before.before.before.Alone-of.ensures, sym c.if2.false ∙ c.before.spares-f.ensures d c.before.before.before.before.before.before.requires.1), profile_settled d a.p c.before.before.before.before.before.before.requires.1 _ _ c.before.before.before.v-of.ensures c.before.before.w-of.ensures)
+    ((c.before.before.before.before.before.before.requires.0.0, c.before.before.before.before.before.before.requires.0.1, c.before.before.before.before.before.Alone-of.ensures, sym c.if2.false ∙ c.before.spares-f.ensures d c.before.before.before.before.before.before.requires.1), profile_settled d a.p c.before.before.before.before.before.before.requires.1 _ _ c.before.before.before.v_of.ensures c.before.before.w_of.ensures)
 
 returns-3 : tie.Need-returns-3
 returns-3 c = search rules

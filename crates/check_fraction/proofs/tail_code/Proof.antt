@@ -29,10 +29,10 @@ returns-2 : tie.Need-returns-2
 returns-2 c =
     let a = c.before.before.before.before.before.args in
     let T = table a.columns.now a.low.now a.high.now in
-    tail_none a.k c.before.before.before.before.before.requires.0.0 (bounded a.b (joined_in T a.s)) c.before.before.tail_at.result c.before.tail-places.result (c.before.before.tail_at.ensures ∙ bounded_tail a.b (joined_in T a.s) a.k) (c.before.tail-places.ensures.0 (bounded a.b (joined_in T a.s)) c.before.before.before.before.before.requires.1) (search rules)
+    tail_none a.k c.before.before.before.before.before.requires.0.0 (bounded a.b (joined_in T a.s)) c.before.before.tail_at.result c.before.tail_places.result (c.before.before.tail_at.ensures ∙ bounded_tail a.b (joined_in T a.s) a.k) (c.before.tail_places.ensures.0 (bounded a.b (joined_in T a.s)) c.before.before.before.before.before.requires.1) (search rules)
 
 mul-result : tie.Need-overflow-mul-result
-mul-result c = omega (arith, c.before.tail-places.ensures.1)
+mul-result c = omega (arith, c.before.tail_places.ensures.1)
 
 power-requires : tie.Need-power-requires
 power-requires c κs = search rules
@@ -47,13 +47,13 @@ add-result : tie.Need-overflow-add-result
 add-result c =
     let a = c.before.before.before.before.before.before.args in
     let T = table a.columns.now a.low.now a.high.now in
-    omega (arith, c.before.before.tail-places.ensures.1, tail_room a.k c.before.before.before.before.before.before.requires.0.0 (bounded a.b (joined_in T a.s)) c.before.before.before.tail_at.result c.power.result (c.before.before.before.tail_at.ensures ∙ bounded_tail a.b (joined_in T a.s) a.k) c.power.ensures)
+    omega (arith, c.before.before.tail_places.ensures.1, tail_room a.k c.before.before.before.before.before.before.requires.0.0 (bounded a.b (joined_in T a.s)) c.before.before.before.tail_at.result c.power.result (c.before.before.before.tail_at.ensures ∙ bounded_tail a.b (joined_in T a.s) a.k) c.power.ensures)
 
 returns-3 : tie.Need-returns-3
 returns-3 c =
     let a = c.before.before.before.before.before.before.args in
     let T = table a.columns.now a.low.now a.high.now in
-    tail_some a.k c.before.before.before.before.before.before.requires.0.0 (bounded a.b (joined_in T a.s)) c.before.before.before.tail_at.result c.before.before.tail-places.result c.power.result (c.before.before.before.tail_at.ensures ∙ bounded_tail a.b (joined_in T a.s) a.k) (c.before.before.tail-places.ensures.0 (bounded a.b (joined_in T a.s)) c.before.before.before.before.before.before.requires.1) (search rules) c.power.ensures
+    tail_some a.k c.before.before.before.before.before.before.requires.0.0 (bounded a.b (joined_in T a.s)) c.before.before.before.tail_at.result c.before.before.tail_places.result c.power.result (c.before.before.before.tail_at.ensures ∙ bounded_tail a.b (joined_in T a.s) a.k) (c.before.before.tail_places.ensures.0 (bounded a.b (joined_in T a.s)) c.before.before.before.before.before.before.requires.1) (search rules) c.power.ensures
 
 pub tail-code-spec : {M : Type 1} → statement M
 tail-code-spec =

@@ -29,8 +29,8 @@ returns c =
     let a = c.before.before.before.args in
     let p = c.before.before.before.requires in
     let T = table a.columns.now a.low.now a.high.now in
-    tail_is a.k c.before.before.power.result c.before.power2.result c.least-from.result (joined_in T a.s) c.before.before.power.ensures c.before.power2.ensures
-    (c.least-from.ensures ∙ tail_ready T a.s a.k c.before.before.power.result c.before.power2.result p.1 p.2 p.0 c.before.before.power.ensures c.before.power2.ensures)
+    tail_is a.k c.before.before.power.result c.before.power2.result c.least_from.result (joined_in T a.s) c.before.before.power.ensures c.before.power2.ensures
+    (c.least_from.ensures ∙ tail_ready T a.s a.k c.before.before.power.result c.before.power2.result p.1 p.2 p.0 c.before.before.power.ensures c.before.power2.ensures)
 
 pub tail-of-spec : {M : Type 1} → statement M
 tail-of-spec =

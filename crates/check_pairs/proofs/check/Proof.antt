@@ -38,7 +38,7 @@ returns : tie.Need-returns
 returns c =
     let a = c.before.before.before.before.before.before.before.before.before.before.before.before.before.before.before.before.before.before.before.before.args in
     let n = c.before.before.before.before.before.before.before.before.before.before.before.before.rule-count in
-    held_is (lent a.low.now a.high.now a.columns.now a.relations.now a.keyword.now a.clauses.now a.count) n.result c.first-pair.result
+    held_is (lent a.low.now a.high.now a.columns.now a.relations.now a.keyword.now a.clauses.now a.count) n.result c.first_pair.result
     (record {
       low = c.before.before.before.before.before.before.before.before.before.before.before.before.before.before.before.before.before.before.sized-arg2.given.0;
       high = c.before.before.before.before.before.before.before.before.before.before.before.before.before.before.before.before.before.sized-arg3.given.0;
@@ -47,7 +47,7 @@ returns c =
       keyword = c.before.before.before.before.before.before.before.before.before.before.before.before.before.before.before.sized-arg5.given.0;
       clauses = c.before.before.before.before.before.before.before.before.before.before.before.before.before.before.sized-arg6.given.0;
     })
-    n.ensures c.first-pair.ensures
+    n.ensures c.first_pair.ensures
 
 pub check-spec : {M : Type 1} → statement M
 check-spec =

@@ -28,7 +28,7 @@ single-at-requires : tie.Need-single-at-requires invariant-loop decreases-loop
 single-at-requires c κs = omega (arith, c.before.before.before.requires, c.loop-test.true)
 
 relation-profile-requires : tie.Need-relation-profile-requires invariant-loop decreases-loop
-relation-profile-requires c κs = c.single-at.ensures.1
+relation-profile-requires c κs = c.single_at.ensures.1
 
 add-j : tie.Need-overflow-add-j invariant-loop decreases-loop
 add-j c = search rules
@@ -42,7 +42,7 @@ loop-again c =
     let T = table a.columns.now a.low.now a.high.now in
     let l = c.before.before.before.loop in
     let r = c.relation-profile in
-    (omega (arith, l.invariant.0), inl (omega (arith, c.before.before.loop-test.true)), met_more T a.from l.j l.p r.result _ l.invariant.0 l.invariant.2 (r.ensures ∙ ap (λ (s : Single). profile_of (relation_by a.low.now a.high.now s ∷ [])) c.before.single-at.ensures.0) refl)
+    (omega (arith, l.invariant.0), inl (omega (arith, c.before.before.loop-test.true)), met_more T a.from l.j l.p r.result _ l.invariant.0 l.invariant.2 (r.ensures ∙ ap (λ (s : Single). profile_of (relation_by a.low.now a.high.now s ∷ [])) c.before.single_at.ensures.0) refl)
 
 returns : tie.Need-returns invariant-loop decreases-loop
 returns c = let a = c.before.before.before.args in let T = table a.columns.now a.low.now a.high.now in let l = c.before.loop in met_all T a.from a.to l.j l.p l.invariant.0 c.loop-test.false l.invariant.1 l.invariant.2

@@ -23,7 +23,7 @@ returns c =
     let a = c.before.before.before.args in
     let T = table a.columns.now a.low.now a.high.now in
     let d = joined_in T a.s in
-    let w = c.before.before.integer-of in
+    let w = c.before.before.integer_of in
     let p = c.before.integer-of2 in
     let t = c.Alone-of in
     let l : Floors = record { whole = w.result; part = p.result; tail = t.result } in

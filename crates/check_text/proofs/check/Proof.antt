@@ -9,7 +9,7 @@ is-bare-requires : tie.Need-is-bare-requires
 is-bare-requires c κs = search rules
 
 returns : tie.Need-returns
-returns c = bare_passes c.before.before.before.args.pack.now (sym c.before.is-bare.ensures ∙ c.if1.true)
+returns c = bare_passes c.before.before.before.args.pack.now (sym c.before.is_bare_law.ensures ∙ c.if1.true)
 
 check-read-requires : tie.Need-check-read-requires
 check-read-requires c κs = search rules

@@ -25,14 +25,14 @@ enum-known-read-2 c = search rules
 
 returns : tie.Need-returns
 returns c =
-    let p = c.before.before.before.before.before.before.before.before.before.before.before.read-pack in
+    let p = c.before.before.before.before.before.before.before.before.before.before.before.read_pack in
     let e = c.before.before.before.before.before.before.before.before.before.read.given.1 in
-    c.checked-by.ensures ∙ ap checked_by c.before.check.ensures
+    c.checked_by.ensures ∙ ap checked_by c.before.check.ensures
     ∙ good (read_pack c.before.before.before.before.before.before.before.before.before.before.before.before.before.before.before.before.before.before.before.args.pack.now) p.result _ _ p.ensures.answer e (rules_left p.ensures _ e)
 
 returns-2 : tie.Need-returns-2
 returns-2 c =
-    let p = c.before.before.before.read-pack in
+    let p = c.before.before.before.read_pack in
     bad (read_pack c.before.before.before.before.before.before.before.before.before.before.before.args.pack.now) p.result _ p.ensures.answer c.before.read2.given.1
 
 pub check-read-spec : {M : Type 1} → statement M

@@ -20,7 +20,7 @@ returns : tie.Need-returns
 returns c = search rules
 
 returns-2 : tie.Need-returns-2
-returns-2 c = c.same-clash.ensures ∙ rw c.before.before.a.given.1
+returns-2 c = c.same_clash.ensures ∙ rw c.before.before.a.given.1
 
 pub same-answer-spec : {M : Type 1} → statement M
 same-answer-spec =

@@ -9,14 +9,14 @@ same-pair-requires : tie.Need-same-pair-requires
 same-pair-requires c κs = search rules
 
 returns : tie.Need-returns
-returns c = first_no c.before.same-pair.result _ _ c.before.same-pair.ensures (not_true _ c.if1.true)
+returns c = first_no c.before.same_pair.result _ _ c.before.same_pair.ensures (not_true _ c.if1.true)
 
 same-number-requires : tie.Need-same-number-requires
 same-number-requires c κs = search rules
 
 returns-2 : tie.Need-returns-2
 returns-2 c =
-    first_yes c.before.before.same-pair.result _ c.same_number.result _ c.before.before.same-pair.ensures (not-false _ c.before.if1.false) c.same_number.ensures
+    first_yes c.before.before.same_pair.result _ c.same_number.result _ c.before.before.same_pair.ensures (not-false _ c.before.if1.false) c.same_number.ensures
 
 pub same-parts-spec : {M : Type 1} → statement M
 same-parts-spec = tie.close (tie.spec same-pair-requires returns same-number-requires returns-2)

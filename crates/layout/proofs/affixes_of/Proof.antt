@@ -7,7 +7,7 @@ negative-affixes-requires : tie.Need-negative-affixes-requires
 negative-affixes-requires c κs = search rules
 
 returns : tie.Need-returns
-returns c = rw c.before.if1.true c.negative-affixes.ensures
+returns c = rw c.before.if1.true c.negative_affixes.ensures
 
 returns-2 : tie.Need-returns-2
 returns-2 c = rw c.before.before.if1.false

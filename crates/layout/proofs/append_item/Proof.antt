@@ -45,7 +45,7 @@ same-length-2 : tie.Need-same-length-2
 same-length-2 c = search rules
 
 returns-2 : tie.Need-returns-2
-returns-2 c = rw c.before.before.before.before.before.before.t2.given.1 (renamed (ap (symbol_in c.before.before.before.before.before.before.before.before.before.before.args.house.now standard_record) c.before.before.before.symbol-of.ensures) c.before.before.append-symbol.ensures)
+returns-2 c = rw c.before.before.before.before.before.before.t2.given.1 (renamed (ap (symbol_in c.before.before.before.before.before.before.before.before.before.before.args.house.now standard_record) c.before.before.before.symbol_of.ensures) c.before.before.append-symbol.ensures)
 
 returns-3 : tie.Need-returns-3
 returns-3 c = rw c.enum_told.given.1 (nothing _ _ (omega arith))

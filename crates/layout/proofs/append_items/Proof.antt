@@ -49,7 +49,7 @@ loop-again c =
       omega (arith, x.next),
       l.invariant.2,
       affix_write (symbol_in a.house.now standard_record) a.s.now l.i l.quoted l.number c.before.before.before.before.before.before.before.before.loop-test.true t.result t.ensures.0
-          l.invariant.2 l.invariant.3 c.before.before.quoted-after.ensures c.before.is_number.ensures x,
+          l.invariant.2 l.invariant.3 c.before.before.quoted_after.ensures c.before.is_number.ensures x,
     )
 
 same_length : tie.Need-same-length invariant-loop decreases-loop

@@ -33,7 +33,7 @@ returns-3 : tie.Need-returns-3
 returns-3 c =
     let line = c.before.before.before.before.before.before.before.before.before.args.line.now in
     let t = job_told line c.before.before.before.before.before.before.before.if1.false c.before.before.before.before.before.if2.false in
-    rw (c.job-with.ensures, c.before.is_last.ensures, c.before.before.before.run-until.ensures.0, c.before.before.before.before.after.ensures) t
+    rw (c.job_with.ensures, c.before.is_last.ensures, c.before.before.before.run-until.ensures.0, c.before.before.before.before.after.ensures) t
 
 pub read-job-spec : {M : Type 1} → statement M
 read-job-spec =

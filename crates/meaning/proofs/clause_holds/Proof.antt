@@ -33,7 +33,7 @@ returns c =
     let a = c.before.before.before.before.before.args in
     let T = table a.columns.now a.low.now a.high.now in
     let h = c.before.relation-holds in
-    let e = h.ensures ∙ ap (λ (s : Single). holds (relation_by a.low.now a.high.now s) a.x) c.before.before.single-at.ensures.0 in
+    let e = h.ensures ∙ ap (λ (s : Single). holds (relation_by a.low.now a.high.now s) a.x) c.before.before.single_at.ensures.0 in
     sym (sym l.invariant ∙ all_failed (λ (r : Relation). holds r a.x) (relation_at T) l.j a.to c.before.before.before.loop-test.true (sym e ∙ not_true h.result c.if1.true))
 
 add-j : tie.Need-overflow-add-j invariant-loop decreases-loop
@@ -48,7 +48,7 @@ loop-again c =
     let a = c.before.before.before.before.before.args in
     let T = table a.columns.now a.low.now a.high.now in
     let h = c.before.relation-holds in
-    let e = h.ensures ∙ ap (λ (s : Single). holds (relation_by a.low.now a.high.now s) a.x) c.before.before.single-at.ensures.0 in
+    let e = h.ensures ∙ ap (λ (s : Single). holds (relation_by a.low.now a.high.now s) a.x) c.before.before.single_at.ensures.0 in
     sym (all_next (λ (r : Relation). holds r a.x) (relation_at T) l.j a.to c.before.before.before.loop-test.true (sym e ∙ not-false h.result c.if1.false)) ∙ l.invariant
 
 returns-2 : tie.Need-returns-2 invariant-loop decreases-loop

@@ -34,7 +34,7 @@ returns c =
     let l = c.before.before.before.before.before in
     let a = l.before.args in
     let T = table a.columns.now a.low.now a.high.now in
-    let h : c.before.clause-holds.result ≡ clause_holds (clause_at T a.relations.now l.loop.j) a.x = c.before.clause-holds.ensures ∙ rw (c.before.before.before.relations-start.ensures, c.before.before.relations-stop.ensures) in
+    let h : c.before.clause_holds.result ≡ clause_holds (clause_at T a.relations.now l.loop.j) a.x = c.before.clause_holds.ensures ∙ rw (c.before.before.before.relations-start.ensures, c.before.before.relations-stop.ensures) in
     sym (sym l.loop.invariant ∙ any_found (λ (r : List Relation). clause_holds r a.x) (clause_at T a.relations.now) l.loop.j a.to c.before.before.before.before.loop-test.true (sym h ∙ c.if1.true))
 
 add-j : tie.Need-overflow-add-j invariant-loop decreases-loop
@@ -48,7 +48,7 @@ loop-again c =
     let l = c.before.before.before.before.before in
     let a = l.before.args in
     let T = table a.columns.now a.low.now a.high.now in
-    let h : c.before.clause-holds.result ≡ clause_holds (clause_at T a.relations.now l.loop.j) a.x = c.before.clause-holds.ensures ∙ rw (c.before.before.before.relations-start.ensures, c.before.before.relations-stop.ensures) in
+    let h : c.before.clause_holds.result ≡ clause_holds (clause_at T a.relations.now l.loop.j) a.x = c.before.clause_holds.ensures ∙ rw (c.before.before.before.relations-start.ensures, c.before.before.relations-stop.ensures) in
     sym (any_next (λ (r : List Relation). clause_holds r a.x) (clause_at T a.relations.now) l.loop.j a.to c.before.before.before.before.loop-test.true (sym h ∙ c.if1.false)) ∙ l.loop.invariant
 
 returns-2 : tie.Need-returns-2 invariant-loop decreases-loop

@@ -37,7 +37,7 @@ returns : tie.Need-returns invariant-loop decreases-loop
 returns c =
     let l = c.before.before.before.before.before in
     let a = l.before.args in
-    sym (sym l.loop.invariant ∙ any_found (in_range a.x) (range_at a.low.now a.high.now) l.loop.k a.to c.before.before.before.before.loop-test.true (sym c.before.in-range.ensures ∙ c.if1.true))
+    sym (sym l.loop.invariant ∙ any_found (in_range a.x) (range_at a.low.now a.high.now) l.loop.k a.to c.before.before.before.before.loop-test.true (sym c.before.in_range_law.ensures ∙ c.if1.true))
 
 add-k : tie.Need-overflow-add-k invariant-loop decreases-loop
 add-k c = search rules
@@ -49,7 +49,7 @@ loop-again : tie.Need-loop-preserved invariant-loop decreases-loop
 loop-again c =
     let l = c.before.before.before.before.before in
     let a = l.before.args in
-    sym (any_next (in_range a.x) (range_at a.low.now a.high.now) l.loop.k a.to c.before.before.before.before.loop-test.true (sym c.before.in-range.ensures ∙ c.if1.false)) ∙ l.loop.invariant
+    sym (any_next (in_range a.x) (range_at a.low.now a.high.now) l.loop.k a.to c.before.before.before.before.loop-test.true (sym c.before.in_range_law.ensures ∙ c.if1.false)) ∙ l.loop.invariant
 
 returns-2 : tie.Need-returns-2 invariant-loop decreases-loop
 returns-2 c =

@@ -34,7 +34,7 @@ returns-2 c =
     let r = relation_by a.low.now a.high.now a.s in
     let w = c.before.before.before.before.before.before.is_whole in
     let q = c.before.in-ranges in
-    let k = listed r a.x q.result (sym w.ensures ∙ not-false w.result c.before.before.before.before.before.if1.false) (q.ensures ∙ rw (c.before.before.remainder.ensures, c.before.before.before.before.operand-value.ensures, c.before.before.before.wide.ensures)) in
+    let k = listed r a.x q.result (sym w.ensures ∙ not-false w.result c.before.before.before.before.before.if1.false) (q.ensures ∙ rw (c.before.before.remainder.ensures, c.before.before.before.before.operand_value.ensures, c.before.before.before.wide.ensures)) in
     holds_negated r a.x q.result k c.if2.true
 
 returns-3 : tie.Need-returns-3
@@ -43,7 +43,7 @@ returns-3 c =
     let r = relation_by a.low.now a.high.now a.s in
     let w = c.before.before.before.before.before.before.is_whole in
     let q = c.before.in-ranges in
-    let k = listed r a.x q.result (sym w.ensures ∙ not-false w.result c.before.before.before.before.before.if1.false) (q.ensures ∙ rw (c.before.before.remainder.ensures, c.before.before.before.before.operand-value.ensures, c.before.before.before.wide.ensures)) in
+    let k = listed r a.x q.result (sym w.ensures ∙ not-false w.result c.before.before.before.before.before.if1.false) (q.ensures ∙ rw (c.before.before.remainder.ensures, c.before.before.before.before.operand_value.ensures, c.before.before.before.wide.ensures)) in
     holds_plain r a.x q.result k c.if2.false
 
 pub relation-holds-spec : {M : Type 1} → statement M

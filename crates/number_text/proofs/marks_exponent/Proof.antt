@@ -10,10 +10,10 @@ is-exponent-requires : tie.Need-is-exponent-requires
 is-exponent-requires c κs = search rules
 
 returns : tie.Need-returns
-returns c = simp (← c.before.before.is-mark.ensures, c.before.if1.true, c.is-exponent.ensures)
+returns c = simp (← c.before.before.mark_is.ensures, c.before.if1.true, c.is_exponent.ensures)
 
 returns-2 : tie.Need-returns-2
-returns-2 c = simp (← c.before.is-mark.ensures, c.if1.false)
+returns-2 c = simp (← c.before.mark_is.ensures, c.if1.false)
 
 pub marks-exponent-spec : {M : Type 1} → statement M
 marks-exponent-spec = tie.close (tie.spec is-mark-requires is-exponent-requires returns returns-2)

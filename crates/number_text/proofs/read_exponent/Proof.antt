@@ -17,7 +17,7 @@ parted-requires c κs = search rules
 returns : tie.Need-returns
 returns c =
     let a = c.before.before.before.before.before.before.before.args in
-    let l = sym c.before.before.before.is-tail.ensures ∙ c.before.before.if1.true in
+    let l = sym c.before.before.before.is_tail.ensures ∙ c.before.before.if1.true in
     rw (tail_cut a.negative a.whole.now a.fraction.now a.s.now, l) (rw c.before.after.ensures at c.parted.ensures)
 
 refuse-requires : tie.Need-refuse-requires
@@ -26,7 +26,7 @@ refuse-requires c κs = search rules
 returns-2 : tie.Need-returns-2
 returns-2 c =
     let a = c.before.before.before.before.before.before.args in
-    let l = sym c.before.before.is-tail.ensures ∙ c.before.if1.false in
+    let l = sym c.before.before.is_tail.ensures ∙ c.before.if1.false in
     rw (tail_cut a.negative a.whole.now a.fraction.now a.s.now, l) c.refuse.ensures
 
 pub read-exponent-spec : {M : Type 1} → statement M

@@ -17,7 +17,7 @@ same-text-requires c κs = search rules
 
 returns : tie.Need-returns
 returns c =
-    simp (c.same_text.ensures, c.before.upto.ensures, c.before.before.piece-len.ensures, c.before.before.before.after.ensures)
+    simp (c.same_text.ensures, c.before.upto.ensures, c.before.before.piece_len.ensures, c.before.before.before.after.ensures)
 
 pub token-is-spec : {M : Type 1} → statement M
 token-is-spec =

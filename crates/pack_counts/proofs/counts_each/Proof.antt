@@ -34,7 +34,7 @@ zero-if-requires-3 : tie.Need-zero-if-requires-3
 zero-if-requires-3 c κs = search rules
 
 returns : tie.Need-returns
-returns c = simp (c.zero-if3.ensures, c.before.more-if7.ensures, c.before.before.zero-if2.ensures, c.before.before.before.more-if6.ensures, c.before.before.before.before.zero-if.ensures, c.before.before.before.before.before.more-if5.ensures, c.before.before.before.before.before.before.more-if4.ensures, c.before.before.before.before.before.before.before.more-if3.ensures, c.before.before.before.before.before.before.before.before.more-if2.ensures, c.before.before.before.before.before.before.before.before.before.more-if.ensures)
+returns c = simp (c.zero-if3.ensures, c.before.more-if7.ensures, c.before.before.zero-if2.ensures, c.before.before.before.more-if6.ensures, c.before.before.before.before.zero_if.ensures, c.before.before.before.before.before.more-if5.ensures, c.before.before.before.before.before.before.more-if4.ensures, c.before.before.before.before.before.before.before.more-if3.ensures, c.before.before.before.before.before.before.before.before.more-if2.ensures, c.before.before.before.before.before.before.before.before.before.more_if.ensures)
 
 pub counts-each-spec : {M : Type 1} → statement M
 counts-each-spec =

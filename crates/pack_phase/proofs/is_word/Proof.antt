@@ -10,7 +10,7 @@ is-letter-requires : tie.Need-is-letter-requires
 is-letter-requires c κs = search rules
 
 returns : tie.Need-returns
-returns c = simp (c.is-letter.ensures, c.before.first_byte.ensures)
+returns c = simp (c.is_letter.ensures, c.before.first_byte.ensures)
 
 pub is-word-spec : {M : Type 1} → statement M
 is-word-spec = tie.close (tie.spec first-byte-requires is-letter-requires returns)

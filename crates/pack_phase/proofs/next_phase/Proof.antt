@@ -130,10 +130,10 @@ returns-3 : tie.Need-returns-3
 returns-3 c = simp (c.pick4.ensures, c.before.same-text2.ensures, c.before.before.before.enum-told3.given.1)
 
 returns-4 : tie.Need-returns-4
-returns-4 c = simp (c.pick5.ensures, c.before.is-operand.ensures, c.before.before.enum-told4.given.1)
+returns-4 c = simp (c.pick5.ensures, c.before.is_operand.ensures, c.before.before.enum-told4.given.1)
 
 returns-5 : tie.Need-returns-5
-returns-5 c = simp (c.pick6.ensures, c.before.same-text3.ensures, c.before.before.before.after-sign.ensures, c.before.before.before.before.enum-told5.given.1)
+returns-5 c = simp (c.pick6.ensures, c.before.same-text3.ensures, c.before.before.before.after_sign.ensures, c.before.before.before.before.enum-told5.given.1)
 
 returns-6 : tie.Need-returns-6
 returns-6 c = simp (c.pick7.ensures, c.before.is_number.ensures, c.before.before.enum-told6.given.1)
@@ -145,7 +145,7 @@ returns-8 : tie.Need-returns-8
 returns-8 c = simp (c.pick8.ensures, c.before.is-number2.ensures, c.before.before.enum-told8.given.1)
 
 returns-9 : tie.Need-returns-9
-returns-9 c = simp (c.pick9.ensures, c.before.same-text4.ensures, c.before.before.before.after-relation.ensures, c.before.before.before.before.enum-told9.given.1)
+returns-9 c = simp (c.pick9.ensures, c.before.same-text4.ensures, c.before.before.before.after_relation.ensures, c.before.before.before.before.enum-told9.given.1)
 
 returns-10 : tie.Need-returns-10
 returns-10 c = simp (c.pick10.ensures, c.before.is-number3.ensures, c.before.before.enum-told10.given.1)

@@ -14,7 +14,7 @@ end-at-requires : tie.Need-end-at-requires
 end-at-requires c κs = search rules
 
 returns-2 : tie.Need-returns-2
-returns-2 c = rw (ne_eqb c.before.before.args.j 0 c.before.if1.false) c.end-at.ensures
+returns-2 c = rw (ne_eqb c.before.before.args.j 0 c.before.if1.false) c.end_at.ensures
 
 pub from-at-spec : {M : Type 1} → statement M
 from-at-spec = tie.close (tie.spec returns sub-end-at end-at-requires returns-2)

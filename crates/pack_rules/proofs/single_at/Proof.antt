@@ -49,7 +49,7 @@ element-copy-out-t21 c = search rules
 returns : tie.Need-returns
 returns c =
     let w = c.before.before.before.within in
-    (rw (c.before.before.before.before.before.from_at.ensures, w.ensures, c.before.before.before.before.end-at.ensures), omega (arith, w.ensures))
+    (rw (c.before.before.before.before.before.from_at.ensures, w.ensures, c.before.before.before.before.end_at.ensures), omega (arith, w.ensures))
 
 pub single-at-spec : {M : Type 1} → statement M
 single-at-spec =

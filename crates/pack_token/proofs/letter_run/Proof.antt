@@ -34,13 +34,13 @@ loop-again : tie.Need-loop-preserved invariant-loop decreases-loop
 loop-again c =
     let l = c.before.before.before.before in
     let s = l.before.before.args.s.now in
-    omega (arith, run_more is_letter s l.loop.i c.before.before.before.loop-test.true (sym c.before.is-letter.ensures ∙ c.if1.true))
+    omega (arith, run_more is_letter s l.loop.i c.before.before.before.loop-test.true (sym c.before.is_letter.ensures ∙ c.if1.true))
 
 returns : tie.Need-returns invariant-loop decreases-loop
 returns c =
     let l = c.before.before.before.before in
     let s = l.before.before.args.s.now in
-    omega (arith, run_end is_letter s l.loop.i c.before.before.before.loop-test.true (sym c.before.is-letter.ensures ∙ c.if1.false))
+    omega (arith, run_end is_letter s l.loop.i c.before.before.before.loop-test.true (sym c.before.is_letter.ensures ∙ c.if1.false))
 
 returns-2 : tie.Need-returns-2 invariant-loop decreases-loop
 returns-2 c = omega (arith, run_out is_letter c.before.before.before.args.s.now c.before.loop.i c.loop-test.false)

@@ -14,7 +14,7 @@ token-len-requires : tie.Need-token-len-requires
 token-len-requires c κs = search rules
 
 returns-2 : tie.Need-returns-2
-returns-2 c = simp (c.token-len.ensures, c.before.after.ensures, le-ltb _ _ c.before.before.if1.false)
+returns-2 c = simp (c.token_len.ensures, c.before.after.ensures, le-ltb _ _ c.before.before.if1.false)
 
 pub piece-len-spec : {M : Type 1} → statement M
 piece-len-spec = tie.close (tie.spec returns after-requires token-len-requires returns-2)

@@ -20,20 +20,20 @@ white-len-requires : tie.Need-white-len-requires invariant-loop decreases-loop
 white-len-requires c κs = search rules
 
 returns : tie.Need-returns invariant-loop decreases-loop
-returns c = skip_end _ _ _ c.before.before.before.loop.invariant c.before.white-len.ensures c.if1.true
+returns c = skip_end _ _ _ c.before.before.before.loop.invariant c.before.white_len.ensures c.if1.true
 
 add_at : tie.Need-overflow-add-at invariant-loop decreases-loop
 add_at c =
-    let z = skip_more _ _ _ _ c.before.before.before.loop.invariant c.before.before.loop-test.true c.before.white-len.ensures c.if1.false in
+    let z = skip_more _ _ _ _ c.before.before.before.loop.invariant c.before.before.loop-test.true c.before.white_len.ensures c.if1.false in
     omega (arith, z.within)
 
 loop-less : tie.Need-loop-smaller invariant-loop decreases-loop
 loop-less c =
-    let z = skip_more _ _ _ _ c.before.before.before.loop.invariant c.before.before.loop-test.true c.before.white-len.ensures c.if1.false in
+    let z = skip_more _ _ _ _ c.before.before.before.loop.invariant c.before.before.loop-test.true c.before.white_len.ensures c.if1.false in
     omega (arith, z.some, z.within)
 
 loop-again : tie.Need-loop-preserved invariant-loop decreases-loop
-loop-again c = (skip_more _ _ _ _ c.before.before.before.loop.invariant c.before.before.loop-test.true c.before.white-len.ensures c.if1.false).on
+loop-again c = (skip_more _ _ _ _ c.before.before.before.loop.invariant c.before.before.loop-test.true c.before.white_len.ensures c.if1.false).on
 
 returns-2 : tie.Need-returns-2 invariant-loop decreases-loop
 returns-2 c = skip_out _ _ _ c.before.loop.invariant c.loop-test.false

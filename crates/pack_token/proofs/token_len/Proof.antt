@@ -13,7 +13,7 @@ letter-run-requires : tie.Need-letter-run-requires
 letter-run-requires c κs = search rules
 
 returns : tie.Need-returns
-returns c = simp (c.letter-run.ensures, ← c.before.before.before.first_byte.ensures, ← c.before.before.is-letter.ensures, c.before.if1.true)
+returns c = simp (c.letter-run.ensures, ← c.before.before.before.first_byte.ensures, ← c.before.before.is_letter.ensures, c.before.if1.true)
 
 is-digit-requires : tie.Need-is-digit-requires
 is-digit-requires c κs = search rules
@@ -22,7 +22,7 @@ digit-run-requires : tie.Need-digit-run-requires
 digit-run-requires c κs = search rules
 
 returns-2 : tie.Need-returns-2
-returns-2 c = simp (c.digit-run.ensures.0, ← c.before.before.before.before.before.first_byte.ensures, ← c.before.before.is_digit.ensures, c.before.if2.true, ← c.before.before.before.before.is-letter.ensures, c.before.before.before.if1.false)
+returns-2 c = simp (c.digit-run.ensures.0, ← c.before.before.before.before.before.first_byte.ensures, ← c.before.before.is_digit.ensures, c.before.if2.true, ← c.before.before.before.before.is_letter.ensures, c.before.before.before.if1.false)
 
 slice-aggregate-length-at : tie.Need-slice-aggregate-length-at
 slice-aggregate-length-at c = search rules
@@ -37,7 +37,7 @@ length-at-requires-2 : tie.Need-length-at-requires-2
 length-at-requires-2 c κs = search rules
 
 returns-3 : tie.Need-returns-3
-returns-3 c = simp (c.length-at2.ensures, c.before.before.length_at.ensures, ← c.before.before.before.before.before.before.before.before.first_byte.ensures, ← c.before.before.before.before.before.before.before.is-letter.ensures, c.before.before.before.before.before.before.if1.false, ← c.before.before.before.before.before.is_digit.ensures, c.before.before.before.before.if2.false)
+returns-3 c = simp (c.length-at2.ensures, c.before.before.length_at.ensures, ← c.before.before.before.before.before.before.before.before.first_byte.ensures, ← c.before.before.before.before.before.before.before.is_letter.ensures, c.before.before.before.before.before.before.if1.false, ← c.before.before.before.before.before.is_digit.ensures, c.before.before.before.before.if2.false)
 
 pub token-len-spec : {M : Type 1} → statement M
 token-len-spec =

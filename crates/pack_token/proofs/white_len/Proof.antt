@@ -18,12 +18,12 @@ is-blank-requires c κs = search rules
 returns : tie.Need-returns
 returns c =
     let a = c.before.before.before.before.before.args in
-    sym (blank (drop a.at a.s.now) (rw (← c.before.before.before.after.ensures, ← c.before.before.first_byte.ensures, ← c.before.is-blank.ensures) c.if1.true))
+    sym (blank (drop a.at a.s.now) (rw (← c.before.before.before.after.ensures, ← c.before.before.first_byte.ensures, ← c.before.is_blank.ensures) c.if1.true))
 
 returns-2 : tie.Need-returns-2
 returns-2 c =
     let a = c.before.before.before.before.before.before.args in
-    sym (plain (drop a.at a.s.now) (rw (← c.before.before.before.before.after.ensures, ← c.before.before.before.first_byte.ensures, ← c.before.before.is-blank.ensures) c.before.if1.false) (rw (← c.before.before.before.before.after.ensures, ← c.before.before.before.first_byte.ensures) c.if2.true))
+    sym (plain (drop a.at a.s.now) (rw (← c.before.before.before.before.after.ensures, ← c.before.before.before.first_byte.ensures, ← c.before.before.is_blank.ensures) c.before.if1.false) (rw (← c.before.before.before.before.after.ensures, ← c.before.before.before.first_byte.ensures) c.if2.true))
 
 wide-len-requires : tie.Need-wide-len-requires
 wide-len-requires c κs = search rules

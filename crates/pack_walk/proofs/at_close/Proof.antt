@@ -13,7 +13,7 @@ mark-after-requires : tie.Need-mark-after-requires
 mark-after-requires c κs = search rules
 
 returns : tie.Need-returns
-returns c = rw (c.mark-after.ensures, c.before.kept.ensures, c.before.before.counts_each.ensures)
+returns c = rw (c.mark_after.ensures, c.before.kept.ensures, c.before.before.counts_each.ensures)
 
 pub at-close-spec : {M : Type 1} → statement M
 at-close-spec = tie.close (tie.spec counts-each-requires kept-requires mark-after-requires returns)

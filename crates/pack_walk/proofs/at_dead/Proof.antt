@@ -13,7 +13,7 @@ none-requires : tie.Need-none-requires
 none-requires c κs = search rules
 
 returns : tie.Need-returns
-returns c = rw (c.none.ensures, c.before.mark-after.ensures, c.before.before.kept.ensures)
+returns c = rw (c.none.ensures, c.before.mark_after.ensures, c.before.before.kept.ensures)
 
 pub at-dead-spec : {M : Type 1} → statement M
 at-dead-spec = tie.close (tie.spec kept-requires mark-after-requires none-requires returns)

@@ -22,7 +22,7 @@ none-requires : tie.Need-none-requires
 none-requires c κs = search rules
 
 returns : tie.Need-returns
-returns c = rw (c.none.ensures, c.before.mark-after.ensures, c.before.before.pick-byte.ensures, c.before.before.before.is-modulus.ensures, c.before.before.before.before.is-other.ensures, c.before.before.before.before.before.capped-value.ensures)
+returns c = rw (c.none.ensures, c.before.mark_after.ensures, c.before.before.pick-byte.ensures, c.before.before.before.is_modulus.ensures, c.before.before.before.before.is-other.ensures, c.before.before.before.before.before.capped-value.ensures)
 
 pub at-modulus-spec : {M : Type 1} → statement M
 at-modulus-spec =

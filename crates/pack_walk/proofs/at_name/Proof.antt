@@ -22,7 +22,7 @@ none-requires : tie.Need-none-requires
 none-requires c κs = search rules
 
 returns : tie.Need-returns
-returns c = rw (c.none.ensures, c.before.mark-after.ensures, c.before.before.name-row.ensures, c.before.before.before.is-other.ensures, c.before.before.before.before.held-before.ensures, c.before.before.before.before.before.keyword-number.ensures)
+returns c = rw (c.none.ensures, c.before.mark_after.ensures, c.before.before.name_row_law.ensures, c.before.before.before.is-other.ensures, c.before.before.before.before.held-before.ensures, c.before.before.before.before.before.keyword_number_law.ensures)
 
 pub at-name-spec : {M : Type 1} → statement M
 at-name-spec =

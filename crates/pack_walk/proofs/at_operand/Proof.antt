@@ -19,7 +19,7 @@ none-requires : tie.Need-none-requires
 none-requires c κs = search rules
 
 returns : tie.Need-returns
-returns c = rw (c.none.ensures, c.before.mark-after.ensures, c.before.before.Operand-row.ensures, c.before.before.before.is-other.ensures, c.before.before.before.before.first_byte.ensures)
+returns c = rw (c.none.ensures, c.before.mark_after.ensures, c.before.before.Operand-row.ensures, c.before.before.before.is-other.ensures, c.before.before.before.before.first_byte.ensures)
 
 pub at-operand-spec : {M : Type 1} → statement M
 at-operand-spec =

@@ -19,7 +19,7 @@ none-requires : tie.Need-none-requires
 none-requires c κs = search rules
 
 returns : tie.Need-returns
-returns c = rw (c.none.ensures, c.before.mark-after.ensures, c.before.before.is-other.ensures, c.before.before.before.same_text.ensures)
+returns c = rw (c.none.ensures, c.before.mark_after.ensures, c.before.before.is-other.ensures, c.before.before.before.same_text.ensures)
 
 pub at-sign-spec : {M : Type 1} → statement M
 at-sign-spec =

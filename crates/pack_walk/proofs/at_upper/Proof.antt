@@ -19,7 +19,7 @@ none-requires : tie.Need-none-requires
 none-requires c κs = search rules
 
 returns : tie.Need-returns
-returns c = rw (c.none.ensures, c.before.mark-after.ensures, c.before.before.upper-row.ensures, c.before.before.before.kept.ensures, c.before.before.before.before.capped-value.ensures)
+returns c = rw (c.none.ensures, c.before.mark_after.ensures, c.before.before.upper_row_law.ensures, c.before.before.before.kept.ensures, c.before.before.before.before.capped-value.ensures)
 
 pub at-upper-spec : {M : Type 1} → statement M
 at-upper-spec =

@@ -25,7 +25,7 @@ none-requires-2 : tie.Need-none-requires-2
 none-requires-2 c κs = search rules
 
 returns : tie.Need-returns
-returns c = rw (c.none2.ensures, c.before.mark-after.ensures, c.before.before.Value-row.ensures, c.before.before.before.is-other.ensures, c.before.before.before.before.counts_each.ensures, c.before.before.before.before.before.none.ensures, c.before.before.before.before.before.before.capped-value.ensures)
+returns c = rw (c.none2.ensures, c.before.mark_after.ensures, c.before.before.Value-row.ensures, c.before.before.before.is-other.ensures, c.before.before.before.before.counts_each.ensures, c.before.before.before.before.before.none.ensures, c.before.before.before.before.before.before.capped-value.ensures)
 
 pub at-value-spec : {M : Type 1} → statement M
 at-value-spec =

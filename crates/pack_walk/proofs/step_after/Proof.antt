@@ -119,13 +119,13 @@ at-dead-requires : tie.Need-at-dead-requires
 at-dead-requires c κs = search rules
 
 returns : tie.Need-returns
-returns c = rw c.before.before.enum_told.given.1 (c.at_name.ensures ∙ rw c.before.next-phase.ensures)
+returns c = rw c.before.before.enum_told.given.1 (c.at_name.ensures ∙ rw c.before.next_phase.ensures)
 
 returns-2 : tie.Need-returns-2
 returns-2 c = rw c.before.before.enum-told2.given.1 (c.at-colon.ensures ∙ rw c.before.next-phase2.ensures)
 
 returns-3 : tie.Need-returns-3
-returns-3 c = rw c.before.before.before.enum-told3.given.1 (c.at-close.ensures ∙ rw (c.before.next-phase3.ensures, c.before.before.ends-bare.ensures))
+returns-3 c = rw c.before.before.before.enum-told3.given.1 (c.at-close.ensures ∙ rw (c.before.next-phase3.ensures, c.before.before.ends_bare.ensures))
 
 returns-4 : tie.Need-returns-4
 returns-4 c = rw c.before.before.enum-told4.given.1 (c.at-operand.ensures ∙ rw c.before.next-phase4.ensures)
@@ -143,7 +143,7 @@ returns-8 : tie.Need-returns-8
 returns-8 c = rw c.before.before.enum-told8.given.1 (c.at_value.ensures ∙ rw c.before.next-phase8.ensures)
 
 returns-9 : tie.Need-returns-9
-returns-9 c = rw c.before.before.before.enum-told9.given.1 (c.at-close2.ensures ∙ rw (c.before.next-phase9.ensures, c.before.before.ends-relation.ensures))
+returns-9 c = rw c.before.before.before.enum-told9.given.1 (c.at-close2.ensures ∙ rw (c.before.next-phase9.ensures, c.before.before.ends_relation.ensures))
 
 returns-10 : tie.Need-returns-10
 returns-10 c = rw c.before.before.enum-told10.given.1 (c.at-upper.ensures ∙ rw c.before.next-phase10.ensures)

@@ -29,7 +29,7 @@ returns c =
     let l = c.before.before.before.before.loop in
     let t = c.before.before.token-in in (
       passed_end s l.quoted l.number l.i l.invariant.1
-          (affix_end s l.i l.quoted l.number c.before.before.before.loop-test.true t.result t.ensures.0 (sym c.before.ends-affix.ensures ∙ c.if1.true)),
+          (affix_end s l.i l.quoted l.number c.before.before.before.loop-test.true t.result t.ensures.0 (sym c.before.ends_affix.ensures ∙ c.if1.true)),
       search rules,
     )
 
@@ -51,8 +51,8 @@ loop-again c =
     let l = c.before.before.before.before.before.before.before.loop in
     let t = c.before.before.before.before.before.token-in in (
       omega (arith, t.ensures.1 c.before.before.before.before.before.before.loop-test.true),
-      passed_again s l.i l.quoted l.number c.before.before.before.before.before.before.loop-test.true t.result t.ensures.0 _ _ c.before.before.quoted-after.ensures c.before.is_number.ensures
-          (sym c.before.before.before.before.ends-affix.ensures ∙ c.before.before.before.if1.false) l.invariant.1,
+      passed_again s l.i l.quoted l.number c.before.before.before.before.before.before.loop-test.true t.result t.ensures.0 _ _ c.before.before.quoted_after.ensures c.before.is_number.ensures
+          (sym c.before.before.before.before.ends_affix.ensures ∙ c.before.before.before.if1.false) l.invariant.1,
     )
 
 returns-2 : tie.Need-returns-2 invariant-loop decreases-loop

@@ -19,7 +19,7 @@ run-until-requires c κs = search rules
 returns : tie.Need-returns
 returns c =
     let a = c.before.before.before.before.args in
-    let e : until (mark_byte a.m) a.s.now ≡ length a.s.now = rw c.before.before.mark-byte.ensures at (sym c.before.run-until.ensures.0 ∙ c.if1.true) in
+    let e : until (mark_byte a.m) a.s.now ≡ length a.s.now = rw c.before.before.mark_byte_law.ensures at (sym c.before.run-until.ensures.0 ∙ c.if1.true) in
     (sym (marks_none a.m false false 0 a.s.now e), omega arith)
 
 count-tokens-requires : tie.Need-count-tokens-requires

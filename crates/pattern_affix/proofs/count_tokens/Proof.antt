@@ -50,7 +50,7 @@ loop-again c =
       omega (arith, w),
       omega (arith, w, c.before.before.before.weigh.ensures.1),
       rw c.before.before.before.weigh.ensures.0
-          (marks_again s l.i l.quoted l.number c.before.before.before.before.before.loop-test.true t.result t.ensures.0 _ _ c.before.before.quoted-after.ensures c.before.is_number.ensures
+          (marks_again s l.i l.quoted l.number c.before.before.before.before.before.loop-test.true t.result t.ensures.0 _ _ c.before.before.quoted_after.ensures c.before.is_number.ensures
           c.before.before.before.before.before.before.before.before.args.m l.n _ l.invariant.2),
     )
 

@@ -52,7 +52,7 @@ loop-again c =
     let l = c.before.before.before.before.before.before.before.loop in
     let t = c.before.before.before.before.before.token-in in (
       omega (arith, t.ensures.1 c.before.before.before.before.before.before.loop-test.true),
-      reserved_again s l.i l.quoted l.number c.before.before.before.before.before.before.loop-test.true t.result t.ensures.0 _ _ c.before.before.quoted-after.ensures c.before.is_number.ensures _
+      reserved_again s l.i l.quoted l.number c.before.before.before.before.before.before.loop-test.true t.result t.ensures.0 _ _ c.before.before.quoted_after.ensures c.before.is_number.ensures _
           (sym c.before.before.before.before.is-refused.ensures ∙ c.before.before.before.if1.false) l.invariant.1,
     )
 

@@ -28,7 +28,7 @@ returns : tie.Need-returns invariant-loop decreases-loop
 returns c =
     let s = c.before.before.before.before.before.before.args.s.now in
     let l = c.before.before.before.before.loop in
-    sym (free_end s l.i c.before.before.before.loop-test.true (sym c.before.may-reserve.ensures ∙ c.if1.true)) ∙ l.invariant.1
+    sym (free_end s l.i c.before.before.before.loop-test.true (sym c.before.may_reserve.ensures ∙ c.if1.true)) ∙ l.invariant.1
 
 add-i : tie.Need-overflow-add-i invariant-loop decreases-loop
 add-i c = search rules
@@ -40,7 +40,7 @@ loop-again : tie.Need-loop-preserved invariant-loop decreases-loop
 loop-again c =
     let s = c.before.before.before.before.before.before.args.s.now in
     let l = c.before.before.before.before.loop in
-    (omega arith, sym (free_more s l.i c.before.before.before.loop-test.true (sym c.before.may-reserve.ensures ∙ c.if1.false)) ∙ l.invariant.1)
+    (omega arith, sym (free_more s l.i c.before.before.before.loop-test.true (sym c.before.may_reserve.ensures ∙ c.if1.false)) ∙ l.invariant.1)
 
 returns-2 : tie.Need-returns-2 invariant-loop decreases-loop
 returns-2 c =

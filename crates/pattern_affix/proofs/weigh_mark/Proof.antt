@@ -11,10 +11,10 @@ mark-number-requires-2 : tie.Need-mark-number-requires-2
 mark-number-requires-2 c κs = search rules
 
 returns : tie.Need-returns
-returns c = (rw (eq-eqb _ _ (rw (c.before.before.mark-number.ensures, c.before.mark-number2.ensures) at c.if1.true)), search rules)
+returns c = (rw (eq-eqb _ _ (rw (c.before.before.mark_number.ensures, c.before.mark-number2.ensures) at c.if1.true)), search rules)
 
 returns-2 : tie.Need-returns-2
-returns-2 c = (rw (ne_eqb _ _ (rw (c.before.before.mark-number.ensures, c.before.mark-number2.ensures) at c.if1.false)), search rules)
+returns-2 c = (rw (ne_eqb _ _ (rw (c.before.before.mark_number.ensures, c.before.mark-number2.ensures) at c.if1.false)), search rules)
 
 pub weigh-mark-spec : {M : Type 1} → statement M
 weigh-mark-spec =

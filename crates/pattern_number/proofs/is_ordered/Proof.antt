@@ -44,7 +44,7 @@ loop-less c = search rules
 loop-again : tie.Need-loop-preserved invariant-loop decreases-loop
 loop-again c = (
   omega arith,
-  rw c.seen-after.ensures
+  rw c.seen_after.ensures
       (sym (ordered_more c.before.before.before.before.before.before.loop.seen c.before.before.before.before.before.before.before.before.args.s.now c.before.before.before.before.before.before.loop.i c.before.before.before.before.before.loop-test.true (sym c.before.before.before.is-misplaced.ensures ∙ c.before.before.if1.false)) ∙ c.before.before.before.before.before.before.loop.invariant.1),
 )
 

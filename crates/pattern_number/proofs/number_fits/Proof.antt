@@ -28,17 +28,17 @@ fraction-fits-requires c κs = search rules
 
 returns : tie.Need-returns
 returns c =
-    let f = rw (c.before.before.before.before.upto.ensures, c.before.before.before.before.before.before.before.run-until.ensures.0) at c.before.before.before.whole-fits.ensures in
-    rw (lt-ltb _ _ (rw c.before.before.before.before.before.before.count-in.ensures.0 at c.before.before.before.before.before.if1.true), sym f ∙ c.before.before.if2.true)
-    (rw (c.before.after.ensures, c.before.before.before.before.before.before.before.run-until.ensures.0) at c.fraction-fits.ensures)
+    let f = rw (c.before.before.before.before.upto.ensures, c.before.before.before.before.before.before.before.run-until.ensures.0) at c.before.before.before.whole_fits.ensures in
+    rw (lt-ltb _ _ (rw c.before.before.before.before.before.before.count_in.ensures.0 at c.before.before.before.before.before.if1.true), sym f ∙ c.before.before.if2.true)
+    (rw (c.before.after.ensures, c.before.before.before.before.before.before.before.run-until.ensures.0) at c.fraction_fits.ensures)
 
 returns-2 : tie.Need-returns-2
 returns-2 c =
-    let f = rw (c.before.before.upto.ensures, c.before.before.before.before.before.run-until.ensures.0) at c.before.whole-fits.ensures in
-    rw (lt-ltb _ _ (rw c.before.before.before.before.count-in.ensures.0 at c.before.before.before.if1.true), sym f ∙ c.if2.false)
+    let f = rw (c.before.before.upto.ensures, c.before.before.before.before.before.run-until.ensures.0) at c.before.whole_fits.ensures in
+    rw (lt-ltb _ _ (rw c.before.before.before.before.count_in.ensures.0 at c.before.before.before.if1.true), sym f ∙ c.if2.false)
 
 returns-3 : tie.Need-returns-3
-returns-3 c = rw (le-ltb _ _ (rw c.before.count-in.ensures.0 at c.if1.false))
+returns-3 c = rw (le-ltb _ _ (rw c.before.count_in.ensures.0 at c.if1.false))
 
 pub number-fits-spec : {M : Type 1} → statement M
 number-fits-spec =

@@ -42,12 +42,12 @@ step-of-requires c κs = search rules
 returns : tie.Need-returns
 returns c =
     rw (
-      c.before.before.before.before.before.before.number-fits.ensures,
-      c.before.before.before.before.before.count-in.ensures.0,
+      c.before.before.before.before.before.before.number_fits.ensures,
+      c.before.before.before.before.before.count_in.ensures.0,
       c.before.before.before.before.count-in2.ensures.0,
       c.before.before.before.count-in3.ensures.0,
-      c.before.before.primary-of.ensures,
-      c.before.secondary-of.ensures,
+      c.before.before.primary_of.ensures,
+      c.before.secondary_of.ensures,
       c.step_of_lem.ensures,
       c.before.before.before.before.before.before.before.before.upto.ensures,
       c.before.before.before.before.before.before.before.after.ensures,

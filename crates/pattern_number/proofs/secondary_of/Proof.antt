@@ -28,7 +28,7 @@ primary-of-requires c κs = search rules
 returns-2 : tie.Need-returns-2
 returns-2 c =
     let f = rw c.before.before.before.before.before.last_of.ensures.0 at c.before.before.before.upto.ensures in
-    c.primary-of.ensures
+    c.primary_of.ensures
     ∙ secondary_same c.before.before.before.before.before.before.before.args.s.now (rw c.before.before.before.before.before.last_of.ensures.0 at c.before.before.before.before.if1.false) (rw (c.before.before.last-of2.ensures.0, f) at c.before.if2.true)
 
 primary-of-requires-2 : tie.Need-primary-of-requires-2

@@ -30,7 +30,7 @@ pattern-of-requires c κs = search rules
 returns-2 : tie.Need-returns-2
 returns-2 c =
     let e = rw (c.before.before.before.before.before.before.has-many-marks.ensures, c.before.before.before.before.before.has-many-marks2.ensures) at c.before.before.before.before.does-either.ensures in
-    rw c.pattern-of.ensures (rw (sym e ∙ c.before.before.before.if1.false, sym c.before.before.has-same-marks.ensures ∙ c.before.if2.true))
+    rw c.pattern_of.ensures (rw (sym e ∙ c.before.before.before.if1.false, sym c.before.before.has-same-marks.ensures ∙ c.before.if2.true))
 
 refuse-requires-2 : tie.Need-refuse-requires-2
 refuse-requires-2 c κs = search rules

@@ -19,7 +19,7 @@ factor-of-requires : tie.Need-factor-of-requires
 factor-of-requires c κs = search rules
 
 returns : tie.Need-returns
-returns c = rw (c.before.before.before.before.span-at.ensures, c.before.before.before.span-at2.ensures, c.before.span-at3.ensures, c.factor-of.ensures)
+returns c = rw (c.before.before.before.before.span-at.ensures, c.before.before.before.span-at2.ensures, c.before.span-at3.ensures, c.factor_of.ensures)
 
 pub pattern-of-spec : {M : Type 1} → statement M
 pattern-of-spec =

@@ -33,11 +33,11 @@ loop-less c = search rules
 
 loop-again : tie.Need-loop-preserved invariant-loop decreases-loop
 loop-again c =
-    (omega arith, omega (arith, c.before.before.before.before.loop.invariant.1, run_more is_place c.before.before.before.before.before.before.args.s.now c.before.before.before.before.loop.i c.before.before.before.loop-test.true (sym c.before.is-place.ensures ∙ c.if1.true)))
+    (omega arith, omega (arith, c.before.before.before.before.loop.invariant.1, run_more is_place c.before.before.before.before.before.before.args.s.now c.before.before.before.before.loop.i c.before.before.before.loop-test.true (sym c.before.is_place.ensures ∙ c.if1.true)))
 
 returns : tie.Need-returns invariant-loop decreases-loop
 returns c =
-    (omega (arith, c.before.before.before.before.loop.invariant.1, run_end is_place c.before.before.before.before.before.before.args.s.now c.before.before.before.before.loop.i c.before.before.before.loop-test.true (sym c.before.is-place.ensures ∙ c.if1.false)), search rules)
+    (omega (arith, c.before.before.before.before.loop.invariant.1, run_end is_place c.before.before.before.before.before.before.args.s.now c.before.before.before.before.loop.i c.before.before.before.loop-test.true (sym c.before.is_place.ensures ∙ c.if1.false)), search rules)
 
 returns-2 : tie.Need-returns-2 invariant-loop decreases-loop
 returns-2 c = (omega (arith, c.before.loop.invariant.1, run_out is_place c.before.before.before.args.s.now c.before.loop.i c.loop-test.false), search rules)

@@ -85,7 +85,7 @@ returns-4 c =
     let b = c.before.before.before.before.before.read-half2.result in
     let at = end_of h + 1 in
     let f = c.before.before.before.before.before.read-half2.ensures.0 ∙ ap (λ (t : List ℕ). capped_half (half_of t)) (take_all (length s - at) (drop at s) (le_of_eq (length-drop at s))) in
-    c.judge2.ensures ∙ ap (judged h b) c.before.own-affixes.ensures
+    c.judge2.ensures ∙ ap (judged h b) c.before.own_affixes.ensures
     ∙ halves_two s h c.before.before.before.before.before.before.before.before.before.before.before.before.read-half.ensures.0 c.before.before.before.before.before.before.before.before.before.if1.false c.before.before.before.before.before.before.before.if2.false b f c.before.before.if3.false
 
 pub read-halves-spec : {M : Type 1} → statement M

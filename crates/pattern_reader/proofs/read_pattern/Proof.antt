@@ -22,20 +22,20 @@ refuse-requires-2 c κs = search rules
 
 returns-2 : tie.Need-returns-2
 returns-2 c =
-    c.refuse2.ensures ∙ rw (le-ltb _ _ c.before.before.before.before.before.if1.false, sym c.before.before.before.before.is-utf8.ensures ∙ c.before.before.before.if2.true, sym c.before.before.has-reserved.ensures ∙ c.before.if3.true)
+    c.refuse2.ensures ∙ rw (le-ltb _ _ c.before.before.before.before.before.if1.false, sym c.before.before.before.before.is_utf8.ensures ∙ c.before.before.before.if2.true, sym c.before.before.has-reserved.ensures ∙ c.before.if3.true)
 
 read-halves-requires : tie.Need-read-halves-requires
 read-halves-requires c κs = search rules
 
 returns-3 : tie.Need-returns-3
 returns-3 c =
-    c.read-halves.ensures ∙ rw (le-ltb _ _ c.before.before.before.before.before.if1.false, sym c.before.before.before.before.is-utf8.ensures ∙ c.before.before.before.if2.true, sym c.before.before.has-reserved.ensures ∙ c.before.if3.false)
+    c.read-halves.ensures ∙ rw (le-ltb _ _ c.before.before.before.before.before.if1.false, sym c.before.before.before.before.is_utf8.ensures ∙ c.before.before.before.if2.true, sym c.before.before.has-reserved.ensures ∙ c.before.if3.false)
 
 refuse-requires-3 : tie.Need-refuse-requires-3
 refuse-requires-3 c κs = search rules
 
 returns-4 : tie.Need-returns-4
-returns-4 c = c.refuse3.ensures ∙ rw (le-ltb _ _ c.before.before.before.if1.false, sym c.before.before.is-utf8.ensures ∙ c.before.if2.false)
+returns-4 c = c.refuse3.ensures ∙ rw (le-ltb _ _ c.before.before.before.if1.false, sym c.before.before.is_utf8.ensures ∙ c.before.if2.false)
 
 pub read-pattern-spec : {M : Type 1} → statement M
 read-pattern-spec =

@@ -15,8 +15,8 @@ token-at-requires c κs = search rules
 returns : tie.Need-returns
 returns c =
     let a = c.before.before.before.args in
-    let e = c.token-at.ensures ∙ ap (token_at a.quoted a.number) c.before.after.ensures in
-    (e, λ h. token_within a.s.now a.at a.quoted a.number h c.token-at.result e)
+    let e = c.token_at.ensures ∙ ap (token_at a.quoted a.number) c.before.after.ensures in
+    (e, λ h. token_within a.s.now a.at a.quoted a.number h c.token_at.result e)
 
 pub token-in-spec : {M : Type 1} → statement M
 token-in-spec = tie.close (tie.spec after-requires token-at-requires returns)

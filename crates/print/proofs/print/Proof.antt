@@ -11,7 +11,7 @@ enum_told : tie.Need-enum-told
 enum_told c = search rules
 
 print-pattern-requires : tie.Need-print-pattern-requires
-print-pattern-requires c κs = sym c.before.before.before.read-symbols.ensures ∙ c.before.enum_told.given.1
+print-pattern-requires c κs = sym c.before.before.before.read_symbols.ensures ∙ c.before.enum_told.given.1
 
 enum-known-judged : tie.Need-enum-known-judged
 enum-known-judged c = search rules
@@ -21,12 +21,12 @@ same_length c = search rules
 
 returns : tie.Need-returns
 returns c =
-    let e = sym c.before.before.before.before.before.before.read-symbols.ensures ∙ c.before.before.before.before.enum_told.given.1 in
+    let e = sym c.before.before.before.before.before.before.read_symbols.ensures ∙ c.before.before.before.before.enum_told.given.1 in
     rw e c.before.before.print-pattern.ensures
 
 returns-2 : tie.Need-returns-2
 returns-2 c =
-    let e = sym c.before.before.before.read-symbols.ensures ∙ c.before.judged.given.1 in
+    let e = sym c.before.before.before.read_symbols.ensures ∙ c.before.judged.given.1 in
     rw e (refl, refl)
 
 pub print-spec : {M : Type 1} → statement M

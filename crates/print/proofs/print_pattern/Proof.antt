@@ -13,7 +13,7 @@ enum-known-reading c = search rules
 print-text-requires : tie.Need-print-text-requires
 print-text-requires c κs =
     let s = c.before.before.before.before.before.before.before.before.before in
-    (s.requires, sym c.before.before.before.before.read-pattern.ensures ∙ c.before.before.reading.given.1)
+    (s.requires, sym c.before.before.before.before.read_pattern.ensures ∙ c.before.before.reading.given.1)
 
 enum-known-reading-2 : tie.Need-enum-known-reading-2
 enum-known-reading-2 c = search rules
@@ -23,12 +23,12 @@ same_length c = search rules
 
 returns : tie.Need-returns
 returns c =
-    let e = sym c.before.before.before.before.before.before.before.read-pattern.ensures ∙ c.before.before.before.before.before.reading.given.1 in
+    let e = sym c.before.before.before.before.before.before.before.read_pattern.ensures ∙ c.before.before.before.before.before.reading.given.1 in
     rw e c.before.before.print-text.ensures
 
 returns-2 : tie.Need-returns-2
 returns-2 c =
-    let e = sym c.before.before.before.read-pattern.ensures ∙ c.before.reading2.given.1 in
+    let e = sym c.before.before.before.read_pattern.ensures ∙ c.before.reading2.given.1 in
     rw e (refl, refl)
 
 pub print-pattern-spec : {M : Type 1} → statement M

@@ -23,7 +23,7 @@ returns c =
     let a = s.args in
     let t = laid_out (symbol_in a.house.now standard_record) a.pattern.now a.p (affixes_of a.p a.negative) a.digits.now in
     let x = c.before.before.write-text in
-    let w = rw c.before.before.before.before.affixes-of.ensures at x.ensures in
+    let w = rw c.before.before.before.before.affixes_of.ensures at x.ensures in
     short_text t a.out.now x.result (needed t _ _ x.result s.requires w) c.if1.true
 
 slice-aggregate-upto : tie.Need-slice-aggregate-upto
@@ -44,7 +44,7 @@ returns-2 c =
     let a = s.args in
     let t = laid_out (symbol_in a.house.now standard_record) a.pattern.now a.p (affixes_of a.p a.negative) a.digits.now in
     let x = c.before.before.before.before.before.before.before.before.before.write-text in
-    let w = rw c.before.before.before.before.before.before.before.before.before.before.before.affixes-of.ensures at x.ensures in
+    let w = rw c.before.before.before.before.before.before.before.before.before.before.before.affixes_of.ensures at x.ensures in
     let n = needed t _ _ x.result s.requires w in
     let e = c.before.before.before.upto.ensures ∙ laid_aside t _ _ x.result n w c.before.before.before.before.before.before.if2.true in
     whole_text t a.out.now _ x.result _ n c.before.before.before.before.before.before.before.if1.false (renamed e c.before.before.append.ensures)
@@ -60,7 +60,7 @@ returns-3 c =
     let s = c.before.before.before.before.before.before.before.before.before.before.before.before.before.before in
     let a = s.args in
     let t = laid_out (symbol_in a.house.now standard_record) a.pattern.now a.p (affixes_of a.p a.negative) a.digits.now in
-    let f = c.before.before.before.before.before.before.before.before.before.affixes-of.ensures in
+    let f = c.before.before.before.before.before.before.before.before.before.affixes_of.ensures in
     let x = c.before.before.before.before.before.before.before.write-text in
     let w = rw f at x.ensures in
     whole_text t a.out.now _ x.result _ (needed t _ _ x.result s.requires w) c.before.before.before.before.before.if1.false (rw f at c.before.before.write-text2.ensures)

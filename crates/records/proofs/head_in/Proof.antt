@@ -12,7 +12,7 @@ no-head-requires : tie.Need-no-head-requires
 no-head-requires c κs = search rules
 
 returns : tie.Need-returns
-returns c = c.no-head.ensures ∙ rw (eq-eqb _ _ (sym c.before.before.fitting.ensures ∙ c.before.if1.true))
+returns c = c.no_head.ensures ∙ rw (eq-eqb _ _ (sym c.before.before.fitting.ensures ∙ c.before.if1.true))
 
 returns-2 : tie.Need-returns-2
 returns-2 c = rw (← c.before.fitting.ensures, ne_eqb _ _ c.if1.false)

@@ -13,20 +13,20 @@ use Rattle.rounding.proofs.round_within.Tie as tie
 ten-to-requires : tie.Need-ten-to-requires
 ten-to-requires c κs =
     let a = c.before.args in
-    (within_fits a.step a.factor a.most a.i a.v a.f c.before.requires.1).places-most
+    (within_fits a.step a.factor a.most a.i a.v a.f c.before.requires.1).places_most
 
 rise-of-requires : tie.Need-rise-of-requires
 rise-of-requires c κs =
     let a = c.before.before.args in
     let x = within_fits a.step a.factor a.most a.i a.v a.f c.before.before.requires.1 in
-    (x.factor-most, x.most-most, x.places-most)
+    (x.factor_most, x.most_most, x.places_most)
 
 scaled-of-requires : tie.Need-scaled-of-requires
 scaled-of-requires c κs =
     let s = c.before.before.before in
     let a = s.args in
     let x = within_fits a.step a.factor a.most a.i a.v a.f s.requires.1 in
-    (x.step-least, x.step-most, x.places-most)
+    (x.step_least, x.step_most, x.places_most)
 
 is-in-word-requires : tie.Need-is-in-word-requires
 is-in-word-requires c κs = rw c.before.before.ten-to.ensures.0 c.before.rise-of.ensures.1
@@ -40,7 +40,7 @@ round-word-requires c κs =
     let a = s.args in
     let x = within_fits a.step a.factor a.most a.i a.v a.f s.requires.1 in
     let e = c.before.before.before.before.scaled-of.ensures in
-    (e.1, omega (arith, e.1, x.step-least), e.2, c.word_of.ensures.1)
+    (e.1, omega (arith, e.1, x.step_least), e.2, c.word_of.ensures.1)
 
 same_length : tie.Need-same-length
 same_length c = search rules
@@ -53,7 +53,7 @@ returns c =
     let p = c.before.before.before.before.before.before.before.scaled-of in
     let r = c.before.before.before.before.before.before.before.before.rise-of in
     let t = c.before.before.before.before.before.before.before.before.before.ten-to in
-    rw (p.ensures.0, c.before.before.before.word_of.ensures.0, t.ensures.0, r.ensures.0, units_share a.step a.factor a.most a.i a.v a.f x.step-least) at c.before.before.round-word.ensures
+    rw (p.ensures.0, c.before.before.before.word_of.ensures.0, t.ensures.0, r.ensures.0, units_share a.step a.factor a.most a.i a.v a.f x.step_least) at c.before.before.round-word.ensures
 
 round-digits-requires : tie.Need-round-digits-requires
 round-digits-requires c κs =
@@ -65,7 +65,7 @@ round-digits-requires c κs =
     let e = c.before.before.before.scaled-of.ensures in
     let one : 1 ≤ t.result = rw t.ensures.0 (power_pos a.v) in
     let all : t.result * r.result ≤ 1000000000000 = rw t.ensures.0 r.ensures.1 in
-    (s.requires.0, one, t.ensures.1, omega (arith, all, mul-le-mul_right r.result one), x.integer-most, x.fraction-most, x.step-least, x.step-most, e.1, e.2)
+    (s.requires.0, one, t.ensures.1, omega (arith, all, mul-le-mul_right r.result one), x.integer_most, x.fraction_most, x.step_least, x.step_most, e.1, e.2)
 
 same-length-2 : tie.Need-same-length-2
 same-length-2 c = search rules
@@ -78,7 +78,7 @@ returns-2 c =
     let p = c.before.before.before.before.before.before.scaled-of in
     let r = c.before.before.before.before.before.before.before.rise-of in
     let t = c.before.before.before.before.before.before.before.before.ten-to in
-    rw (p.ensures.0, t.ensures.0, r.ensures.0, units_share a.step a.factor a.most a.i a.v a.f x.step-least) at c.before.before.round-digits.ensures
+    rw (p.ensures.0, t.ensures.0, r.ensures.0, units_share a.step a.factor a.most a.i a.v a.f x.step_least) at c.before.before.round-digits.ensures
 
 pub round-within-spec : {M : Type 1} → statement M
 round-within-spec = tie.close (tie.spec ten-to-requires rise-of-requires scaled-of-requires is-in-word-requires word-of-requires round-word-requires same_length returns round-digits-requires same-length-2 returns-2)

@@ -60,7 +60,7 @@ returns-2 : tie.Need-returns-2
 returns-2 c =
     let m = c.before.before.before in
     let x = m.before.before.before.before.before.before.before.before.args.x in
-    ap Word c.keyword-at.ensures ∙ one_met (pack m) x m.met-mask.result (declared m) (told m) c.before.if2.true
+    ap Word c.keyword_at.ensures ∙ one_met (pack m) x m.met-mask.result (declared m) (told m) c.before.if2.true
 
 add-behind : tie.Need-overflow-add-behind
 add-behind c =

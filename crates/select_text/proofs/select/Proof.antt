@@ -20,7 +20,7 @@ returns : tie.Need-returns
 returns c =
     let pack = c.before.before.before.before.before.before.args.pack.now in
     let n = c.before.before.before.read_number in
-    c.select-bare.ensures ∙ by_bare pack n.result (sym c.before.before.is-bare.ensures ∙ c.before.if1.true)
+    c.select-bare.ensures ∙ by_bare pack n.result (sym c.before.before.is_bare_law.ensures ∙ c.before.if1.true)
     ∙ ap (select_rules (read_pack pack)) n.ensures
 
 select-read-requires : tie.Need-select-read-requires

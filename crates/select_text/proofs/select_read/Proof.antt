@@ -28,21 +28,21 @@ enum-known-read-2 c = search rules
 returns : tie.Need-returns
 returns c =
     let a = c.before.before.before.before.before.before.before.before.before.before.before.before.before.before.before.before.before.before.before.before.before.args in
-    let p = c.before.before.before.before.before.before.before.before.before.before.before.before.before.read-pack in
+    let p = c.before.before.before.before.before.before.before.before.before.before.before.before.before.read_pack in
     let e = c.before.before.before.before.before.before.before.before.before.before.before.read.given.1 in
     c.select-held.ensures ∙ word (read_pack a.pack.now) p.result _ _ _ a.reading p.ensures.answer e (rules_left p.ensures _ e) c.before.before.before.before.before.before.before.before.reading.given.1
 
 returns-2 : tie.Need-returns-2
 returns-2 c =
     let a = c.before.before.before.before.before.before.before.before.before.before.before.before.before.before.args in
-    let p = c.before.before.before.before.before.before.read-pack in
+    let p = c.before.before.before.before.before.before.read_pack in
     let e = c.before.before.before.before.read.given.1 in
     unread (read_pack a.pack.now) p.result _ _ _ a.reading p.ensures.answer e (rules_left p.ensures _ e) c.before.reading2.given.1
 
 returns-3 : tie.Need-returns-3
 returns-3 c =
     let a = c.before.before.before.before.before.before.before.before.before.before.before.args in
-    let p = c.before.before.before.read-pack in
+    let p = c.before.before.before.read_pack in
     bad (read_pack a.pack.now) p.result _ a.reading p.ensures.answer c.before.read2.given.1
 
 pub select-read-spec : {M : Type 1} → statement M

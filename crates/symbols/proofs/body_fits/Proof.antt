@@ -14,10 +14,10 @@ is-digit-requires : tie.Need-is-digit-requires
 is-digit-requires c κs = search rules
 
 returns : tie.Need-returns
-returns c = rw (sym c.before.before.before.is-char.ensures ∙ c.before.before.if1.true, c.is_digit.ensures, c.before.first.ensures)
+returns c = rw (sym c.before.before.before.is_char.ensures ∙ c.before.before.if1.true, c.is_digit.ensures, c.before.first.ensures)
 
 returns-2 : tie.Need-returns-2
-returns-2 c = rw (sym c.before.is-char.ensures ∙ c.if1.false)
+returns-2 c = rw (sym c.before.is_char.ensures ∙ c.if1.false)
 
 pub body-fits-spec : {M : Type 1} → statement M
 body-fits-spec =

@@ -49,13 +49,13 @@ loop-less c = search rules
 loop-again : tie.Need-loop-preserved invariant-loop decreases-loop
 loop-again c =
     let t = turn c.before.before.before.before.before.before.before.head_at.ensures c.before.before.before.before.before.if1.false in
-    let f = rw (c.before.before.before.upto.ensures, c.before.before.before.before.after.ensures, t.name) at c.before.before.fits-as.ensures in
+    let f = rw (c.before.before.before.upto.ensures, c.before.before.before.before.after.ensures, t.name) at c.before.before.fits_as.ensures in
     (omega (arith, c.before.before.before.before.before.before.before.head_at.ensures.within), every_again t entry_fits (sym f ∙ c.before.if2.true) c.before.before.before.before.before.before.before.before.before.loop.invariant.1)
 
 returns-2 : tie.Need-returns-2 invariant-loop decreases-loop
 returns-2 c =
     let t = turn c.before.before.before.before.before.before.head_at.ensures c.before.before.before.before.if1.false in
-    let f = rw (c.before.before.upto.ensures, c.before.before.before.after.ensures, t.name) at c.before.fits-as.ensures in
+    let f = rw (c.before.before.upto.ensures, c.before.before.before.after.ensures, t.name) at c.before.fits_as.ensures in
     sym (every_fails t entry_fits (sym f ∙ c.if2.false)) ∙ c.before.before.before.before.before.before.before.before.loop.invariant.1
 
 returns-3 : tie.Need-returns-3 invariant-loop decreases-loop

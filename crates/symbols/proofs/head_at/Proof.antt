@@ -32,10 +32,10 @@ head-in-requires : tie.Need-head-in-requires
 head-in-requires c κs = search rules
 
 returns : tie.Need-returns
-returns c = head_placed length_of name_of c.before.before.before.before.before.before.args.s.now c.before.before.before.before.before.before.args.at _ c.before.before.before.before.before.before.requires (c.no-head.ensures ∙ sym (no_entry _ _ (sym c.before.before.before.kind-of.ensures ∙ c.before.enum_told.given.1)))
+returns c = head_placed length_of name_of c.before.before.before.before.before.before.args.s.now c.before.before.before.before.before.before.args.at _ c.before.before.before.before.before.before.requires (c.no_head.ensures ∙ sym (no_entry _ _ (sym c.before.before.before.kind_of.ensures ∙ c.before.enum_told.given.1)))
 
 returns-2 : tie.Need-returns-2
-returns-2 c = head_placed length_of name_of c.before.before.before.before.before.before.before.before.args.s.now c.before.before.before.before.before.before.before.before.args.at _ c.before.before.before.before.before.before.before.before.requires (rw c.before.upper.ensures at c.head_in.ensures ∙ sym (an_entry _ _ _ _ (sym c.before.before.before.before.before.kind-of.ensures ∙ c.before.before.before.k.given.1)))
+returns-2 c = head_placed length_of name_of c.before.before.before.before.before.before.before.before.args.s.now c.before.before.before.before.before.before.before.before.args.at _ c.before.before.before.before.before.before.before.before.requires (rw c.before.upper.ensures at c.head_in.ensures ∙ sym (an_entry _ _ _ _ (sym c.before.before.before.before.before.kind_of.ensures ∙ c.before.before.before.k.given.1)))
 
 pub head-at-spec : {M : Type 1} → statement M
 head-at-spec =

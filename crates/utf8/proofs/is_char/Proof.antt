@@ -11,7 +11,7 @@ char-len-requires : tie.Need-char-len-requires
 char-len-requires c κs = search rules
 
 returns-2 : tie.Need-returns-2
-returns-2 c = rw (ne_eqb _ _ c.before.if1.false, c.char-len.ensures.0)
+returns-2 c = rw (ne_eqb _ _ c.before.if1.false, c.char_len.ensures.0)
 
 pub is-char-spec : {M : Type 1} → statement M
 is-char-spec = tie.close (tie.spec returns char-len-requires returns-2)

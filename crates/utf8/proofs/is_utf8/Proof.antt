@@ -26,24 +26,24 @@ char-len-requires c κs = search rules
 
 returns : tie.Need-returns invariant-loop decreases-loop
 returns c =
-    let e = rw c.before.before.after.ensures at c.before.char-len.ensures.0 in
+    let e = rw c.before.before.after.ensures at c.before.char_len.ensures.0 in
     sym (utf8_end c.before.before.before.before.before.before.args.s.now c.before.before.before.before.loop.i c.before.before.before.loop-test.true _ e c.if1.true) ∙ c.before.before.before.before.loop.invariant.1
 
 add-i : tie.Need-overflow-add-i invariant-loop decreases-loop
 add-i c =
-    let r = rw c.before.before.after.ensures at c.before.char-len.ensures.1 in
+    let r = rw c.before.before.after.ensures at c.before.char_len.ensures.1 in
     omega (arith, length-drop c.before.before.before.before.loop.i c.before.before.before.before.before.before.args.s.now, r)
 
 loop-less : tie.Need-loop-smaller invariant-loop decreases-loop
 loop-less c =
-    let r = rw c.before.before.after.ensures at c.before.char-len.ensures.1 in
+    let r = rw c.before.before.after.ensures at c.before.char_len.ensures.1 in
     omega (arith, length-drop c.before.before.before.before.loop.i c.before.before.before.before.before.before.args.s.now, r)
 
 loop-again : tie.Need-loop-preserved invariant-loop decreases-loop
 loop-again c =
     let s = c.before.before.before.before.before.before.args.s.now in
-    let r = rw c.before.before.after.ensures at c.before.char-len.ensures.1 in
-    let e = rw c.before.before.after.ensures at c.before.char-len.ensures.0 in
+    let r = rw c.before.before.after.ensures at c.before.char_len.ensures.1 in
+    let e = rw c.before.before.after.ensures at c.before.char_len.ensures.0 in
     (omega (arith, length-drop c.before.before.before.before.loop.i s, r), sym (utf8_step s c.before.before.before.before.loop.i c.before.before.before.loop-test.true _ e c.if1.false) ∙ c.before.before.before.before.loop.invariant.1)
 
 returns-2 : tie.Need-returns-2 invariant-loop decreases-loop

@@ -21,7 +21,7 @@ shared-slice-read-if2 c = search rules
 
 returns-2 : tie.Need-returns-2
 returns-2 c =
-    rw (le-ltb _ _ (rw c.before.before.before.before.low_second.ensures at c.before.before.before.if1.false), lt-ltb _ _ (rw c.before.before.high-second.ensures at c.if2.true))
+    rw (le-ltb _ _ (rw c.before.before.before.before.low_second.ensures at c.before.before.before.if1.false), lt-ltb _ _ (rw c.before.before.high_second.ensures at c.if2.true))
 
 after-requires : tie.Need-after-requires
 after-requires c κs = search rules
@@ -31,7 +31,7 @@ all-continue-requires c κs = search rules
 
 returns-3 : tie.Need-returns-3
 returns-3 c =
-    rw (le-ltb _ _ (rw c.before.before.before.before.before.before.low_second.ensures at c.before.before.before.before.before.if1.false), le-ltb _ _ (rw c.before.before.before.before.high-second.ensures at c.before.before.if2.false))
+    rw (le-ltb _ _ (rw c.before.before.before.before.before.before.low_second.ensures at c.before.before.before.before.before.if1.false), le-ltb _ _ (rw c.before.before.before.before.high_second.ensures at c.before.before.if2.false))
     (rw (c.all-continue.ensures, c.before.after.ensures))
 
 pub rest-fits-spec : {M : Type 1} → statement M

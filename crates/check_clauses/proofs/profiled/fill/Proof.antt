@@ -31,7 +31,7 @@ loop-less : tie.Need-loop-smaller invariant-loop decreases-loop
 loop-less c = search rules
 
 loop-again : tie.Need-loop-preserved invariant-loop decreases-loop
-loop-again c = let a = c.before.before.before.before.before.args in let T = table a.columns.now a.low.now a.high.now in (c.before.before.before.before.loop.invariant.0, omega (arith, c.before.before.before.loop-test.true), profiled_more T a.relations.now c.before.before.before.before.loop.profiles c.put.new.0 c.before.before.before.before.loop.j c.before.before.profile-of.result c.before.before.before.before.loop.invariant.2 c.before.before.profile-of.ensures c.put.ensures.0 c.put.ensures.1)
+loop-again c = let a = c.before.before.before.before.before.args in let T = table a.columns.now a.low.now a.high.now in (c.before.before.before.before.loop.invariant.0, omega (arith, c.before.before.before.loop-test.true), profiled_more T a.relations.now c.before.before.before.before.loop.profiles c.put.new.0 c.before.before.before.before.loop.j c.before.before.profile_of.result c.before.before.before.before.loop.invariant.2 c.before.before.profile_of.ensures c.put.ensures.0 c.put.ensures.1)
 
 returns : tie.Need-returns invariant-loop decreases-loop
 returns c = let a = c.before.before.args in let T = table a.columns.now a.low.now a.high.now in subst (Profiled T a.relations.now c.before.loop.profiles) (let z : c.before.loop.j ≡ a.to = omega (arith, c.before.loop.invariant.1, c.loop-test.false) in z) c.before.loop.invariant.2

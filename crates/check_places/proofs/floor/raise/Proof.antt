@@ -24,8 +24,8 @@ by-digits-requires-2 c κs = search rules
 returns : tie.Need-returns
 returns c =
     let a = c.before.before.before.before.args in
-    let w = c.before.before.by_digits.ensures ∙ ap (λ (x : ℕ). if eqb x 0 then 10 ^ max_digits else a.l.whole) c.before.before.before.whole-digits.ensures in
-    let p = c.by-digits2.ensures ∙ ap (λ (x : ℕ). if eqb x 0 then 10 ^ max_digits else a.l.part) c.before.part-digits.ensures in
+    let w = c.before.before.by_digits.ensures ∙ ap (λ (x : ℕ). if eqb x 0 then 10 ^ max_digits else a.l.whole) c.before.before.before.whole_digits_law.ensures in
+    let p = c.by-digits2.ensures ∙ ap (λ (x : ℕ). if eqb x 0 then 10 ^ max_digits else a.l.part) c.before.part_digits.ensures in
     ap₂ (λ (x y : ℕ). made x y a.l.tail) w p
   where
     made : ℕ → ℕ → ℕ → Floors

@@ -26,7 +26,7 @@ mul-result : tie.Need-overflow-mul-result
 mul-result c = omega (arith, c.whole-places.ensures.1)
 
 returns-2 : tie.Need-returns-2
-returns-2 c = λ x h. whole_some x c.before.before.before.before.allows-zero.result c.whole-places.result (c.before.before.before.before.allows-zero.ensures x h) (not-false _ c.before.before.before.if1.false) (c.whole-places.ensures.0 x (profile_settled x c.before.before.before.before.before.args.p h _ _ c.before.before.v-of.ensures c.before.w-of.ensures))
+returns-2 c = λ x h. whole_some x c.before.before.before.before.allows-zero.result c.whole-places.result (c.before.before.before.before.allows-zero.ensures x h) (not-false _ c.before.before.before.if1.false) (c.whole-places.ensures.0 x (profile_settled x c.before.before.before.before.before.args.p h _ _ c.before.before.v_of.ensures c.before.w_of.ensures))
 
 pub whole-code-spec : {M : Type 1} → statement M
 whole-code-spec =

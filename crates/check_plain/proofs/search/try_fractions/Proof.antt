@@ -33,8 +33,8 @@ returns c =
     let l = c.before.before.before.before in
     let s = l.before.before in
     let a = s.args in
-    fractions_found (meets_both (table a.columns.now a.low.now a.high.now) a.relations.now a.clauses.now a.p a.q) a.e a.v a.i s.requires.0 s.requires.1 s.requires.2 s.requires.3 l.loop.f c.before.before.number_at.result c.before.meets-both.result
-    (omega (arith, l.before.power.ensures)) c.before.before.number_at.ensures c.before.meets-both.ensures c.if1.true l.loop.invariant
+    fractions_found (meets_both (table a.columns.now a.low.now a.high.now) a.relations.now a.clauses.now a.p a.q) a.e a.v a.i s.requires.0 s.requires.1 s.requires.2 s.requires.3 l.loop.f c.before.before.number_at.result c.before.meets_both.result
+    (omega (arith, l.before.power.ensures)) c.before.before.number_at.ensures c.before.meets_both.ensures c.if1.true l.loop.invariant
 
 add-f : tie.Need-overflow-add-f invariant-loop decreases-loop
 add-f c = search rules
@@ -47,8 +47,8 @@ loop-again c =
     let l = c.before.before.before.before in
     let s = l.before.before in
     let a = s.args in
-    fractions_more (meets_both (table a.columns.now a.low.now a.high.now) a.relations.now a.clauses.now a.p a.q) a.e a.v a.i s.requires.0 s.requires.1 s.requires.2 s.requires.3 l.loop.f c.before.before.number_at.result c.before.meets-both.result
-    (omega (arith, l.before.power.ensures)) c.before.before.number_at.ensures c.before.meets-both.ensures c.if1.false l.loop.invariant
+    fractions_more (meets_both (table a.columns.now a.low.now a.high.now) a.relations.now a.clauses.now a.p a.q) a.e a.v a.i s.requires.0 s.requires.1 s.requires.2 s.requires.3 l.loop.f c.before.before.number_at.result c.before.meets_both.result
+    (omega (arith, l.before.power.ensures)) c.before.before.number_at.ensures c.before.meets_both.ensures c.if1.false l.loop.invariant
 
 nowhere-requires : tie.Need-nowhere-requires invariant-loop decreases-loop
 nowhere-requires c κs = search rules

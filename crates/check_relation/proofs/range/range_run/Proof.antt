@@ -57,7 +57,7 @@ loop-less : tie.Need-loop-smaller invariant-loop decreases-loop
 loop-less c = search rules
 
 loop-again : tie.Need-loop-preserved invariant-loop decreases-loop
-loop-again c = let a = c.before.before.before.before.before.before.before.before.args in let l = c.before.before.before.before.before.before.before.loop in sweep_more a.low.now a.high.now a.from a.to a.y l.next l.k c.next-with.result c.before.before.before.is-in.result c.before.before.before.before.before.before.loop-test.true l.invariant (search rules) c.before.before.if1.false (search rules)
+loop-again c = let a = c.before.before.before.before.before.before.before.before.args in let l = c.before.before.before.before.before.before.before.loop in sweep_more a.low.now a.high.now a.from a.to a.y l.next l.k c.next_with.result c.before.before.before.is-in.result c.before.before.before.before.before.before.loop-test.true l.invariant (search rules) c.before.before.if1.false (search rules)
 
 returns-2 : tie.Need-returns-2 invariant-loop decreases-loop
 returns-2 c = let a = c.before.before.args in let l = c.before.loop in (sweep_out a.low.now a.high.now a.from a.to a.y l.next l.k c.loop-test.false l.invariant, l.invariant.near)

@@ -21,7 +21,7 @@ listed-run-requires c κs =
 returns : tie.Need-returns
 returns c =
     let a = c.before.before.before.args in
-    let l = c.listed-run in
+    let l = c.listed_run in
     listed_test (relation_by a.low.now a.high.now a.s) a.x c.before.remainder.result l.result.stop l.result.says (rw c.before.before.wide.ensures at c.before.remainder.ensures) l.ensures.0
 
 pub holds-of-spec : {M : Type 1} → statement M

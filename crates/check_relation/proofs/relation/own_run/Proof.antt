@@ -22,13 +22,13 @@ asked-factor-requires c κs =
 mul-listed-run : tie.Need-overflow-mul-listed-run
 mul-listed-run c =
     let a = c.before.args in
-    let f = c.asked-factor in
+    let f = c.asked_factor in
     omega (arith, room_factor a.q a.p a.s.operand f.result c.before.requires.1.0 f.ensures)
 
 listed-run-requires : tie.Need-listed-run-requires
 listed-run-requires c κs =
     let a = c.before.args in
-    let f = c.asked-factor in
+    let f = c.asked_factor in
     (c.before.requires.1.1.0, room_factor a.q a.p a.s.operand f.result c.before.requires.1.0 f.ensures)
 
 upwards-by-requires : tie.Need-upwards-by-requires
@@ -36,17 +36,17 @@ upwards-by-requires c κs =
     let a = c.before.before.args in
     let r = relation_by a.low.now a.high.now a.s in
     let p = c.before.before.requires in
-    let f = c.before.asked-factor in
+    let f = c.before.asked_factor in
     let n = told_asked a.q r a.level p.1.1.1 p.1.1.2 in
-    (pos f.result (λ z. n (sym f.ensures ∙ z)), factor_fits a.q a.s.operand f.result p.0 f.ensures, c.listed-run.ensures.1)
+    (pos f.result (λ z. n (sym f.ensures ∙ z)), factor_fits a.q a.s.operand f.result p.0 f.ensures, c.listed_run.ensures.1)
 
 returns : tie.Need-returns
 returns c =
     let a = c.before.before.before.args in
     let r = relation_by a.low.now a.high.now a.s in
     let p = c.before.before.before.requires in
-    let f = c.before.before.asked-factor in
-    let l = c.before.listed-run in
+    let f = c.before.before.asked_factor in
+    let l = c.before.listed_run in
     let u = c.upwards-by in
     let n = told_asked a.q r a.level p.1.1.1 p.1.1.2 in
     let k : f.result ≡ 0 → ⊥ = λ z. n (sym f.ensures ∙ z) in

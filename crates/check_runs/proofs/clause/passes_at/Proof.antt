@@ -53,7 +53,7 @@ returns-2 c =
     let a = c.before.before.before.before.before.before.before.before.before.args in
     let T = table a.columns.now a.low.now a.high.now in
     let l = c.before.before.before.before.before.loop in
-    let e = c.before.passes_of.ensures ∙ ap (λ (s : Single). passes a.q (relation_by a.low.now a.high.now s) a.x) (c.before.before.single-at.ensures.0 ∙ ap (single_at a.columns.now) c.before.before.before.place_of.ensures.0) in
+    let e = c.before.passes_of.ensures ∙ ap (λ (s : Single). passes a.q (relation_by a.low.now a.high.now s) a.x) (c.before.before.single_at.ensures.0 ∙ ap (single_at a.columns.now) c.before.before.before.place_of.ensures.0) in
     sym (sym l.invariant.0 ∙ all_failed (λ (r : Relation). passes a.q r a.x) (relation_of T a.s) l.k (size_of a.s) (omega (arith, l.invariant.1, c.before.before.before.before.loop-test.true)) (sym e ∙ not_true _ c.if2.true))
 
 add-k : tie.Need-overflow-add-k invariant-loop decreases-loop
@@ -67,7 +67,7 @@ loop-again c =
     let a = c.before.before.before.before.before.before.before.before.before.args in
     let T = table a.columns.now a.low.now a.high.now in
     let l = c.before.before.before.before.before.loop in
-    let e = c.before.passes_of.ensures ∙ ap (λ (s : Single). passes a.q (relation_by a.low.now a.high.now s) a.x) (c.before.before.single-at.ensures.0 ∙ ap (single_at a.columns.now) c.before.before.before.place_of.ensures.0) in
+    let e = c.before.passes_of.ensures ∙ ap (λ (s : Single). passes a.q (relation_by a.low.now a.high.now s) a.x) (c.before.before.single_at.ensures.0 ∙ ap (single_at a.columns.now) c.before.before.before.place_of.ensures.0) in
     (sym (all_next (λ (r : Relation). passes a.q r a.x) (relation_of T a.s) l.k (size_of a.s) (omega (arith, l.invariant.1, c.before.before.before.before.loop-test.true)) (sym e ∙ not-false _ c.if2.false)) ∙ l.invariant.0, l.invariant.1)
 
 returns-3 : tie.Need-returns-3 invariant-loop decreases-loop

@@ -41,7 +41,7 @@ own-run-requires c κs =
     let a = c.before.before.before.before.before.before.before.before.before.args in
     let p = c.before.before.before.before.before.before.before.before.before.requires in
     let T = table a.columns.now a.low.now a.high.now in
-    let e = c.single-at.ensures in
+    let e = c.single_at.ensures in
     (p.0, (p.1.0, (e.1, p.1.1.0.4, p.1.1.0.5 ∙ ap (λ (j : ℕ). tier a.q (relation_at T j)) (sym c.before.place_of.ensures.0) ∙ ap (λ (s : Single). tier a.q (relation_by a.low.now a.high.now s)) (sym e.0))))
 
 element-write-says : tie.Need-element-write-says
@@ -57,9 +57,9 @@ returns-2 : tie.Need-returns-2
 returns-2 c =
     let a = c.before.before.before.before.before.before.before.before.before.before.args in
     let T = table a.columns.now a.low.now a.high.now in
-    let r = c.own-run.result in
-    let e = c.before.single-at.ensures.0 ∙ ap (single_at a.columns.now) c.before.before.place_of.ensures.0 in
-    let f : Alike (own_one a.q a.level (relation_of T a.s a.k)) a.p r.says r.stop = subst (λ (s : Single). Alike (own_one a.q a.level (relation_by a.low.now a.high.now s)) a.p r.says r.stop) e c.own-run.ensures.0 in
+    let r = c.own_run.result in
+    let e = c.before.single_at.ensures.0 ∙ ap (single_at a.columns.now) c.before.before.place_of.ensures.0 in
+    let f : Alike (own_one a.q a.level (relation_of T a.s a.k)) a.p r.says r.stop = subst (λ (s : Single). Alike (own_one a.q a.level (relation_by a.low.now a.high.now s)) a.p r.says r.stop) e c.own_run.ensures.0 in
     (f, kept_set T a.s a.q a.level a.p a.says.now a.stop.now a.k r.stop r.says (omega (arith, c.before.before.before.before.before.before.before.before.before.before.requires.1.1.0.3, c.before.before.before.before.before.before.sized-arg2.given.0)) (omega (arith, c.before.before.before.before.before.before.before.before.before.before.requires.1.1.0.3, c.before.before.before.before.sized-arg4.given.0)) f c.before.before.before.before.before.before.before.before.before.before.requires.1.1.1)
 
 pub run-at-spec : {M : Type 1} → statement M

@@ -58,7 +58,7 @@ loop-again c =
     let T = table a.columns.now a.low.now a.high.now in
     let l = c.before.before.before.before.before.loop in
     let m = c.mark_of in
-    let e = c.before.before.single-at.ensures.0 ∙ ap (single_at a.columns.now) c.before.before.before.place_of.ensures.0 in
+    let e = c.before.before.single_at.ensures.0 ∙ ap (single_at a.columns.now) c.before.before.before.place_of.ensures.0 in
     (marks_more T a.s a.q l.k l.asked m.new.1.1.0 (omega (arith, l.invariant.1, c.before.before.before.before.loop-test.true)) l.invariant.0 (subst (λ (s : Single). Noted a.q (relation_by a.low.now a.high.now s) m.new.1.1.0) e (m.ensures.1.0 a.low.now a.high.now)) m.ensures.1.1, l.invariant.1, telling_more T a.s a.q l.k m.result l.tiers (omega (arith, l.invariant.1, c.before.before.before.before.loop-test.true, c.before.before.before.before.before.before.before.before.before.requires.1.2)) l.invariant.2 (m.ensures.0 a.low.now a.high.now ∙ ap (λ (s : Single). tier a.q (relation_by a.low.now a.high.now s)) e))
 
 returns : tie.Need-returns invariant-loop decreases-loop

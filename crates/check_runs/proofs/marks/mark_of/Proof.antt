@@ -12,7 +12,7 @@ factor-of-requires c κs = search rules
 returns : tie.Need-returns
 returns c =
     let a = c.before.before.args in
-    let f = c.before.factor-of in
+    let f = c.before.factor_of in
     (λ low high. tier_unasked a.q (relation_by low high a.s) f.result f.ensures c.if1.true, (λ low high. noted_not a.q (relation_by low high a.s) f.result f.ensures a.asked.now c.if1.true, λ i h. h))
 
 wide-requires : tie.Need-wide-requires
@@ -21,7 +21,7 @@ wide-requires c κs = search rules
 level-of-requires : tie.Need-level-of-requires
 level-of-requires c κs =
     let a = c.before.before.before.args in
-    factor_fits a.q a.s.operand c.before.before.factor-of.result c.before.before.before.requires c.before.before.factor-of.ensures
+    factor_fits a.q a.s.operand c.before.before.factor_of.result c.before.before.before.requires c.before.before.factor_of.ensures
 
 mark-requires : tie.Need-mark-requires
 mark-requires c κs = search rules
@@ -29,8 +29,8 @@ mark-requires c κs = search rules
 returns-2 : tie.Need-returns-2
 returns-2 c =
     let a = c.before.before.before.before.before.before.args in
-    let f = c.before.before.before.before.before.factor-of in
-    let l = c.before.before.level-of in
+    let f = c.before.before.before.before.before.factor_of in
+    let l = c.before.before.level_of in
     let e = rw c.before.before.before.wide.ensures at l.ensures.0 in
     (λ low high. tier_asked a.q (relation_by low high a.s) f.result f.ensures l.result c.before.before.before.before.if1.false e, (λ low high. noted_at a.q (relation_by low high a.s) f.result f.ensures c.mark.new.0 l.result e c.mark.ensures.0, c.mark.ensures.1))
 

@@ -14,10 +14,10 @@ nowhere-requires : tie.Need-nowhere-requires
 nowhere-requires c κs = search rules
 
 returns : tie.Need-returns
-returns c = let a = c.before.before.before.args in let T = table a.columns.now a.low.now a.high.now in let x = joined_in T a.s in let d = bounded a.b x in (clause_none d c.before.before.exponent-of.result _ (c.before.before.exponent-of.ensures d c.before.before.before.requires.1) c.before.if1.true c.nowhere.ensures.0, c.nowhere.ensures.1)
+returns c = let a = c.before.before.before.args in let T = table a.columns.now a.low.now a.high.now in let x = joined_in T a.s in let d = bounded a.b x in (clause_none d c.before.before.exponent_of.result _ (c.before.before.exponent_of.ensures d c.before.before.before.requires.1) c.before.if1.true c.nowhere.ensures.0, c.nowhere.ensures.1)
 
 spot-at-requires : tie.Need-spot-at-requires
-spot-at-requires c κs = let a = c.before.before.args in let T = table a.columns.now a.low.now a.high.now in let x = joined_in T a.s in let d = bounded a.b x in ((search rules, c.before.before.requires.0.0, c.before.before.requires.0.1, c.before.before.requires.0.2), (c.before.before.requires.1, c.before.exponent-of.ensures d c.before.before.requires.1))
+spot-at-requires c κs = let a = c.before.before.args in let T = table a.columns.now a.low.now a.high.now in let x = joined_in T a.s in let d = bounded a.b x in ((search rules, c.before.before.requires.0.0, c.before.before.requires.0.1, c.before.before.requires.0.2), (c.before.before.requires.1, c.before.exponent_of.ensures d c.before.before.requires.1))
 
 returns-2 : tie.Need-returns-2
 returns-2 c = search rules

@@ -26,8 +26,8 @@ returns c =
     let a = c.before.before.before.args in
     let p = c.before.before.before.requires in
     let T = table a.columns.now a.low.now a.high.now in
-    integer_is a.whole a.e c.before.before.one-if.result c.before.lowest-of.result c.least-from.result (joined_in T a.s) c.before.before.one-if.ensures c.before.lowest-of.ensures
-    (c.least-from.ensures ∙ integer_ready T a.s a.whole c.before.before.one-if.result c.before.lowest-of.result p.1 p.2 c.before.before.one-if.ensures (low_le a.e c.before.lowest-of.result p.0 c.before.lowest-of.ensures))
+    integer_is a.whole a.e c.before.before.one-if.result c.before.lowest-of.result c.least_from.result (joined_in T a.s) c.before.before.one-if.ensures c.before.lowest-of.ensures
+    (c.least_from.ensures ∙ integer_ready T a.s a.whole c.before.before.one-if.result c.before.lowest-of.result p.1 p.2 c.before.before.one-if.ensures (low_le a.e c.before.lowest-of.result p.0 c.before.lowest-of.ensures))
 
 pub integer-of-spec : {M : Type 1} → statement M
 integer-of-spec =

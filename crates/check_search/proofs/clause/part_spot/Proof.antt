@@ -30,7 +30,7 @@ nowhere-requires : tie.Need-nowhere-requires
 nowhere-requires c κs = search rules
 
 returns : tie.Need-returns
-returns c = let a = c.before.before.before.before.before.args in let T = table a.columns.now a.low.now a.high.now in let x = joined_in T a.s in let d = bounded a.b x in (kind_no_fraction false a.e d _ _ (code_part d false _ refl (c.before.before.opens.ensures (not_true _ c.before.if1.true) d (profile_settled d a.p c.before.before.before.before.before.requires.1 _ _ c.before.before.before.before.v-of.ensures c.before.before.before.w-of.ensures))) (omega arith) c.nowhere.ensures.0, c.nowhere.ensures.1)
+returns c = let a = c.before.before.before.before.before.args in let T = table a.columns.now a.low.now a.high.now in let x = joined_in T a.s in let d = bounded a.b x in (kind_no_fraction false a.e d _ _ (code_part d false _ refl (c.before.before.opens.ensures (not_true _ c.before.if1.true) d (profile_settled d a.p c.before.before.before.before.before.requires.1 _ _ c.before.before.before.before.v_of.ensures c.before.before.before.w_of.ensures))) (omega arith) c.nowhere.ensures.0, c.nowhere.ensures.1)
 
 nowhere-requires-2 : tie.Need-nowhere-requires-2
 nowhere-requires-2 c κs = search rules
@@ -45,7 +45,7 @@ nowhere-requires-3 : tie.Need-nowhere-requires-3
 nowhere-requires-3 c κs = search rules
 
 returns-3 : tie.Need-returns-3
-returns-3 c = let a = c.before.before.before.before.before.before.before.before.before.args in let T = table a.columns.now a.low.now a.high.now in let x = joined_in T a.s in let d = bounded a.b x in (kind_none false a.e d c.before.before.integer-of.result _ (c.before.before.integer-of.ensures ∙ bounded_integer a.b x false a.e c.before.before.before.before.before.before.before.before.before.requires.0.0) c.before.if3.true c.nowhere3.ensures.0, c.nowhere3.ensures.1)
+returns-3 c = let a = c.before.before.before.before.before.before.before.before.before.args in let T = table a.columns.now a.low.now a.high.now in let x = joined_in T a.s in let d = bounded a.b x in (kind_none false a.e d c.before.before.integer_of.result _ (c.before.before.integer_of.ensures ∙ bounded_integer a.b x false a.e c.before.before.before.before.before.before.before.before.before.requires.0.0) c.before.if3.true c.nowhere3.ensures.0, c.nowhere3.ensures.1)
 
 part-code-requires : tie.Need-part-code-requires
 part-code-requires c κs = ((c.before.before.before.before.before.before.before.before.requires.0.1, c.before.before.before.before.before.before.before.before.requires.0.2, c.before.before.before.before.before.before.before.before.requires.0.3.tail), c.before.before.before.before.before.before.before.before.requires.1)
@@ -54,13 +54,13 @@ nowhere-requires-4 : tie.Need-nowhere-requires-4
 nowhere-requires-4 c κs = search rules
 
 returns-4 : tie.Need-returns-4
-returns-4 c = let a = c.before.before.before.before.before.before.before.before.before.before.before.args in let T = table a.columns.now a.low.now a.high.now in let x = joined_in T a.s in let d = bounded a.b x in (kind_no_fraction false a.e d c.before.before.part-code.result _ (code_part d false _ refl c.before.before.part-code.ensures) c.before.if4.true c.nowhere4.ensures.0, c.nowhere4.ensures.1)
+returns-4 c = let a = c.before.before.before.before.before.before.before.before.before.before.before.args in let T = table a.columns.now a.low.now a.high.now in let x = joined_in T a.s in let d = bounded a.b x in (kind_no_fraction false a.e d c.before.before.part_code.result _ (code_part d false _ refl c.before.before.part_code.ensures) c.before.if4.true c.nowhere4.ensures.0, c.nowhere4.ensures.1)
 
 spot-of-requires : tie.Need-spot-of-requires
 spot-of-requires c κs = (c.before.before.before.before.before.before.before.before.before.before.requires.0.0, search rules)
 
 returns-5 : tie.Need-returns-5
-returns-5 c = let a = c.before.before.before.before.before.before.before.before.before.before.before.args in let T = table a.columns.now a.low.now a.high.now in let x = joined_in T a.s in let d = bounded a.b x in (c.spot_of_lem.ensures.0 false d (code_part d false _ refl c.before.before.part-code.ensures) (c.before.before.before.before.integer-of.ensures ∙ bounded_integer a.b x false a.e c.before.before.before.before.before.before.before.before.before.before.before.requires.0.0), c.spot_of_lem.ensures.1)
+returns-5 c = let a = c.before.before.before.before.before.before.before.before.before.before.before.args in let T = table a.columns.now a.low.now a.high.now in let x = joined_in T a.s in let d = bounded a.b x in (c.spot_of_lem.ensures.0 false d (code_part d false _ refl c.before.before.part_code.ensures) (c.before.before.before.before.integer_of.ensures ∙ bounded_integer a.b x false a.e c.before.before.before.before.before.before.before.before.before.before.before.requires.0.0), c.spot_of_lem.ensures.1)
 
 pub part-spot-spec : {M : Type 1} → statement M
 part-spot-spec =

@@ -31,7 +31,7 @@ comes-first-requires : tie.Need-comes-first-requires
 comes-first-requires c κs = search rules
 
 returns-2 : tie.Need-returns-2
-returns-2 c = let a = c.before.before.before.before.before.before.args in let T = table a.columns.now a.low.now a.high.now in let x = joined_in T a.s in let d = bounded a.b x in let g = code_whole d true _ refl (c.before.before.before.before.before.Whole-code.ensures d c.before.before.before.before.before.before.requires.1.0) in let i = c.before.before.before.integer-of.ensures ∙ bounded_integer a.b x true a.e c.before.before.before.before.before.before.requires.0.0 in (clause_whole d a.e _ c.before.before.before.before.before.before.requires.1.1 c.before.before.before.before.before.before.requires.0.0 (c.before.before.spot_of_lem.ensures.0 true d g i) (c.before.comes-first.ensures c.if2.true d a.e c.before.before.before.before.before.before.requires.1.0 c.before.before.before.before.before.before.requires.0.0 g i), c.before.before.spot_of_lem.ensures.1)
+returns-2 c = let a = c.before.before.before.before.before.before.args in let T = table a.columns.now a.low.now a.high.now in let x = joined_in T a.s in let d = bounded a.b x in let g = code_whole d true _ refl (c.before.before.before.before.before.Whole-code.ensures d c.before.before.before.before.before.before.requires.1.0) in let i = c.before.before.before.integer_of.ensures ∙ bounded_integer a.b x true a.e c.before.before.before.before.before.before.requires.0.0 in (clause_whole d a.e _ c.before.before.before.before.before.before.requires.1.1 c.before.before.before.before.before.before.requires.0.0 (c.before.before.spot_of_lem.ensures.0 true d g i) (c.before.comes-first.ensures c.if2.true d a.e c.before.before.before.before.before.before.requires.1.0 c.before.before.before.before.before.before.requires.0.0 g i), c.before.before.spot_of_lem.ensures.1)
 
 part-spot-requires-2 : tie.Need-part-spot-requires-2
 part-spot-requires-2 c κs = (c.before.before.before.before.before.before.requires.0, c.before.before.before.before.before.before.requires.1.0)
@@ -40,7 +40,7 @@ earlier-requires : tie.Need-earlier-requires
 earlier-requires c κs = (c.before.before.before.spot_of_lem.ensures.1, c.part-spot2.ensures.1)
 
 returns-3 : tie.Need-returns-3
-returns-3 c = let a = c.before.before.before.before.before.before.before.before.args in let T = table a.columns.now a.low.now a.high.now in let x = joined_in T a.s in let d = bounded a.b x in let g = code_whole d true _ refl (c.before.before.before.before.before.before.before.Whole-code.ensures d c.before.before.before.before.before.before.before.before.requires.1.0) in let i = c.before.before.before.before.before.integer-of.ensures ∙ bounded_integer a.b x true a.e c.before.before.before.before.before.before.before.before.requires.0.0 in (clause_some d a.e _ _ _ c.before.before.before.before.before.before.before.before.requires.1.1 c.before.before.before.before.before.before.before.before.requires.0.0 (c.before.before.before.before.spot_of_lem.ensures.0 true d g i) c.before.part-spot2.ensures.0 c.earlier.ensures.0, c.earlier.ensures.1)
+returns-3 c = let a = c.before.before.before.before.before.before.before.before.args in let T = table a.columns.now a.low.now a.high.now in let x = joined_in T a.s in let d = bounded a.b x in let g = code_whole d true _ refl (c.before.before.before.before.before.before.before.Whole-code.ensures d c.before.before.before.before.before.before.before.before.requires.1.0) in let i = c.before.before.before.before.before.integer_of.ensures ∙ bounded_integer a.b x true a.e c.before.before.before.before.before.before.before.before.requires.0.0 in (clause_some d a.e _ _ _ c.before.before.before.before.before.before.before.before.requires.1.1 c.before.before.before.before.before.before.before.before.requires.0.0 (c.before.before.before.before.spot_of_lem.ensures.0 true d g i) c.before.part-spot2.ensures.0 c.earlier.ensures.0, c.earlier.ensures.1)
 
 pub spot-at-spec : {M : Type 1} → statement M
 spot-at-spec =

@@ -14,7 +14,7 @@ condition-holds-requires : tie.Need-condition-holds-requires
 condition-holds-requires c κs = search rules
 
 returns : tie.Need-returns
-returns c = c.condition-holds.ensures ∙ rw (c.before.before.clauses-start.ensures, c.before.clauses-stop.ensures)
+returns c = c.condition_holds.ensures ∙ rw (c.before.before.clauses-start.ensures, c.before.clauses-stop.ensures)
 
 pub met-at-spec : {M : Type 1} → statement M
 met-at-spec =
