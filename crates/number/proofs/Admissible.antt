@@ -2,30 +2,27 @@
 use mathlib.Core.Path.{◌≡◌, refl, sym, ap, ◌∙◌, subst}
 use mathlib.Core.Bool.{Bool, true, false}
 use mathlib.Core.List.{List, [], ◌∷◌, ◌++◌}
-use mathlib.Core.Logic.{◌⊎◌, ⊎_elim}
-use Prim.Native.Nat.{ℕ, zero, suc, ◌+◌, ◌*◌, ◌-◌, ◌/◌, ◌%◌, ◌^◌, ◌≤◌, ◌<◌}
+use Prim.Native.Nat.{ℕ, ◌+◌, ◌*◌, ◌/◌, ◌%◌, ◌^◌, ◌≤◌, ◌<◌}
 use native.Mathlib.Omega.{arith}
 use native.Mathlib.Nat.{mul-le-mul_right, mod-eq_of_lt, mod-lt, div-add-mod', div-lt_iff_lt-mul, le-div_iff_mul-le}
-use lib.Pow.{pow-add}
-use lib.Dec.{ltb, eqb, eqb-suc-zero}
+use lib.Dec.{eqb}
 use borrow.Author.Tests.{eq-eqb, ne_eqb, eqb-true, eqb-false}
-use lib.ListN.{length, get_or, take, drop, length-append}
+use lib.ListN.{length, get_or, length-append}
 use lib.Seq.{drop_at}
 use Rattle.decimal.specs.Choice.{if◌then◌else◌}
-use Rattle.decimal.specs.Digits.{run, value_from, value, first, trim, figures, numeral, wide, AllDigits, is_digit}
+use Rattle.decimal.specs.Digits.{run, value, first, figures, numeral, AllDigits, is_digit}
 use Rattle.decimal.proofs.Choices.{tested}
 use Rattle.decimal.proofs.Runs.{of_append, of_drop}
 use Rattle.decimal.proofs.Values.{value_append, value_from_law, value_lt, value_scales, digits_first, length_first, first_append, power_pos, power_mono}
 use Rattle.decimal.proofs.Zeros.{value_below}
 use Rattle.decimal.proofs.Figured.{length_figures, digits_figures, value_figures, figures_of, value_numeral, digits_numeral, numeral_some, numeral_short, numeral_head}
-use Rattle.number.specs.Limits.{max_bytes, max_exponent, max_digits, max_places}
+use Rattle.number.specs.Limits.{max_bytes, max_digits}
 use Rattle.number.specs.Grammar.{Parts, Spells, is_exponent, sign_text, marked, text_of}
 use Rattle.number.specs.Reading.{parts_from, shift_of, number_of, significant, read_number}
-use Rattle.number.specs.Table.{AfterZero, integer_digits, fraction_digits, Past11, Past12, Past13, Past14, Past15}
-use Rattle.number.specs.Admitted.{Admitted, w_of, t_of, number_from}
+use Rattle.number.specs.Table.{AfterZero, integer_digits, fraction_digits, Past15}
+use Rattle.number.specs.Admitted.{Admitted, number_from}
 use Rattle.number.specs.declared.Number.{Number}
-use Rattle.number.specs.declared.Reading.{Reading}
-use Rattle.number.specs.declared.Reading.TheVariants.{Is, Refused}
+use Rattle.number.specs.declared.Reading.TheVariants.{Is}
 use Rattle.number.proofs.Sizes.{within_digits}
 use Rattle.number.proofs.Table.{reads, read_if}
 

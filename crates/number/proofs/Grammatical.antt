@@ -1,21 +1,20 @@
 -- The reader is sound and complete for the grammar of number texts.
 use mathlib.Core.Path.{◌≡◌, refl, sym, ap, ◌∙◌, subst}
 use mathlib.Core.Bool.{Bool, true, false}
-use mathlib.Core.List.{List, [], ◌∷◌, ◌++◌, append-nil}
+use mathlib.Core.List.{List, [], ◌∷◌, ◌++◌}
 use mathlib.Core.Option.{Option, none, some}
-use mathlib.Core.Logic.{◌⊎◌, ⊎_elim}
-use Prim.Native.Nat.{ℕ, zero, suc, ◌+◌, ◌≤◌, ◌<◌}
+use Prim.Native.Nat.{ℕ, suc, ◌≤◌, ◌<◌}
 use native.Mathlib.Omega.{arith}
 use native.Mathlib.Nat.{add-zero}
 use lib.Dec.{eqb, eqb-suc-zero}
-use borrow.Author.Tests.{eqb-true, eqb-false, eq-eqb, ne_eqb}
-use lib.ListN.{length, get_or, take, drop, take-append-drop}
+use borrow.Author.Tests.{eqb-true, eqb-false, ne_eqb}
+use lib.ListN.{length, take, drop, take-append-drop}
 use lib.Seq.{length-take-le, take_at, drop_at}
-use Rattle.decimal.specs.Choice.{if◌then◌else◌, both}
+use Rattle.decimal.specs.Choice.{both}
 use Rattle.decimal.specs.Digits.{is_digit, begins, run, AllDigits}
 use Rattle.decimal.proofs.Choices.{choice, tested, not_both, never, both_true}
 use Rattle.decimal.proofs.Runs.{run_le, run_append, of_run, of_head, digit_bounds}
-use Rattle.number.specs.Grammar.{Parts, Spells, is_mark, is_exponent, sign_text, marked, text_of}
+use Rattle.number.specs.Grammar.{Parts, Spells, is_mark, is_exponent, sign_text, marked}
 use Rattle.number.specs.Reading.{parts_from, exponent_at, fraction_at, point_at, whole_at, parts_of}
 
 -- ---- sound: what is read of a text are its parts

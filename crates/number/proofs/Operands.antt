@@ -2,17 +2,17 @@
 use mathlib.Core.Path.{◌≡◌, refl, sym, ap, ◌∙◌, subst}
 use mathlib.Core.Bool.{Bool, true, false}
 use mathlib.Core.List.{List, [], ◌∷◌, ◌++◌}
-use mathlib.Core.Logic.{◌⊎◌, ⊎_elim}
-use mathlib.Core.Option.{Option, none, some}
+use mathlib.Core.Logic.{⊎_elim}
+use mathlib.Core.Option.{Option}
 use Prim.Native.Nat.{ℕ, zero, suc, ◌+◌, ◌*◌, ◌-◌, ◌%◌, ◌^◌, ◌≤◌, ◌<◌}
 use native.Mathlib.Omega.{arith}
 use native.Mathlib.Nat.{suc-sub-suc, mod-eq_of_lt, mul-le-mul_right, mul_assoc, eq_of_mul-eq-mul_right, pow-suc}
 use lib.Pow.{pow-add}
 use lib.Dec.{ltb, eqb, eqb-suc-zero}
 use borrow.Author.Tests.{le-ltb, ltb-true, ltb-false, eqb-true, eqb-false, ne_eqb}
-use lib.ListN.{length, get_or, take, drop, length-append}
+use lib.ListN.{length, get_or, take, drop}
 use Rattle.decimal.specs.Choice.{if◌then◌else◌, both}
-use Rattle.decimal.specs.Digits.{is_digit, begins, run, value_from, value, first, lead, trim, figures, AllDigits}
+use Rattle.decimal.specs.Digits.{is_digit, begins, run, value, lead, trim, figures, AllDigits}
 use Rattle.decimal.proofs.Choices.{choices, tested, not_both, both_true}
 use Rattle.decimal.proofs.Runs.{of_head, of_take}
 use Rattle.decimal.proofs.Values.{power_pos, value_lt}
@@ -22,11 +22,11 @@ use Rattle.answer.specs.declared.NumberRow.TheVariants.{NumberTooLong}
 use Rattle.number.specs.Limits.{max_bytes, max_exponent, max_digits, max_places}
 use Rattle.number.specs.Grammar.{Parts, is_mark, is_exponent, sign_text}
 use Rattle.number.specs.Reading.{parts_from, exponent_at, fraction_at, point_at, whole_at, parts_of, after_zero, significant, integer_at, visible_at, refuse, judge, judged, read_number}
-use Rattle.number.specs.Admitted.{Admitted, w_of, t_of, Trimmed, number_from}
+use Rattle.number.specs.Admitted.{w_of, t_of, Trimmed}
 use Rattle.number.specs.Alike.{negative, negated}
 use Rattle.number.specs.declared.Number.{Number}
 use Rattle.number.specs.declared.Reading.{Reading}
-use Rattle.number.specs.declared.Reading.TheVariants.{Is, Refused}
+use Rattle.number.specs.declared.Reading.TheVariants.{Is}
 use Rattle.number.proofs.Admissible.{admitted, four_numbers}
 
 -- ---- w and t

@@ -1,15 +1,12 @@
 -- Laws of sizes: 14's count of digits and the bound 10 ^ max_digits say the same, and values below the bounds are exact.
-use mathlib.Core.Path.{◌≡◌, refl, sym, ◌∙◌}
-use mathlib.Core.Bool.{Bool, true, false}
-use mathlib.Core.List.{List, [], ◌∷◌, ◌++◌}
-use Prim.Native.Nat.{ℕ, ◌+◌, ◌-◌, ◌^◌, ◌≤◌, ◌<◌, min}
+use mathlib.Core.Path.{◌≡◌, ◌∙◌}
+use mathlib.Core.List.{List, ◌++◌}
+use Prim.Native.Nat.{ℕ, ◌^◌, ◌≤◌, ◌<◌, min}
 use native.Mathlib.Omega.{arith}
-use borrow.Author.Tests.{lt-ltb, le-ltb}
-use native.Mathlib.Decide.{dec_le}
-use lib.Dec.{ltb, leb}
+use lib.Dec.{ltb}
 use borrow.Author.Tests.{ltb-true, ltb-false}
 use lib.ListN.{length}
-use Rattle.decimal.specs.Digits.{value_from, value, lead, cap, AllDigits}
+use Rattle.decimal.specs.Digits.{value_from, value, cap, AllDigits}
 use Rattle.decimal.proofs.Choices.{tested}
 use Rattle.decimal.proofs.Values.{value_append, value_cap, value_lt, power_mono}
 use Rattle.decimal.proofs.Zeros.{value_below, value_above}

@@ -1,27 +1,24 @@
 -- Each of 10 to 15 is given exactly when its row says, and a number is read exactly when none is.
-use mathlib.Core.Path.{◌≡◌, refl, sym, ap, ◌∙◌, subst}
-use mathlib.Core.Bool.{Bool, true, false}
-use mathlib.Core.List.{List, [], ◌∷◌, ◌++◌}
+use mathlib.Core.Path.{◌≡◌, refl, ap, ◌∙◌, subst}
+use mathlib.Core.Bool.{true, false}
+use mathlib.Core.List.{List}
 use mathlib.Core.Logic.{◌↔◌}
 use mathlib.Core.Option.{Option, none, some}
-use Prim.Native.Nat.{ℕ, suc, ◌≤◌, ◌<◌}
+use Prim.Native.Nat.{ℕ, ◌<◌}
 use native.Mathlib.Omega.{arith}
 use lib.Dec.{ltb, eqb}
 use borrow.Author.Tests.{ltb-true, ltb-false, eqb-true, eqb-false, lt-ltb, le-ltb, eq-eqb, ne_eqb}
 use lib.ListN.{length}
-use Rattle.decimal.specs.Choice.{if◌then◌else◌}
 use Rattle.decimal.specs.Digits.{value}
 use Rattle.decimal.proofs.Choices.{tested, not_both, never}
 use Rattle.answer.specs.declared.NumberRow.{NumberRow}
 use Rattle.answer.specs.declared.NumberRow.TheVariants.{NumberTooLong, NotANumber, ExponentTooLarge, ExponentAfterZero, IntegerTooLong, FractionTooLong}
-use Rattle.answer.specs.declared.Refusal.TheVariants.{Number as OfNumber}
 use Rattle.number.specs.Limits.{max_bytes, max_exponent, max_digits, max_places}
-use Rattle.number.specs.Grammar.{Parts, Spells}
+use Rattle.number.specs.Grammar.{Parts}
 use Rattle.number.specs.Reading.{parts_of, shift_of, number_of, after_zero, significant, refuse, judge, judged, read_number}
 use Rattle.number.specs.Table.{AfterZero, integer_digits, fraction_digits, Past11, Past12, Past13, Past14, Past15, Row}
 use Rattle.number.specs.declared.Number.{Number}
-use Rattle.number.specs.declared.Reading.{Reading}
-use Rattle.number.specs.declared.Reading.TheVariants.{Is, Refused}
+use Rattle.number.specs.declared.Reading.TheVariants.{Is}
 use Rattle.number.proofs.Grammatical.{sound, complete, none_spells}
 
 -- 13's test says what its row says

@@ -1,5 +1,5 @@
 -- Texts that document 01 calls alike: "`c` and `e` mean the same. [..] Leading integer zeros and the sign change no operand."
-use Rattle.std.specs.Prelude.{Bool, true, false, List, [], ◌∷◌, ℕ}
+use Rattle.std.specs.Prelude.{true}
 use Rattle.number.specs.declared.Number.{Number}
 use Rattle.number.specs.declared.Reading.{Reading}
 use Rattle.number.specs.declared.Reading.TheVariants.{Is, Refused}

@@ -11,4 +11,4 @@ returns-then-exponent-eq0 c = simp (eq-eqb _ _ c.if-exponent-eq0.true)
 pub returns : goal.returns
 returns c =
     let v = value c.args.whole.now in
-    simp (ne_eqb _ _ c.if-exponent-eq0.false) (eqb_same c.value_of_lem.result 0 v 0 (λ k. omega arith) (λ k. omega arith))
+    simp (ne_eqb _ _ c.if-exponent-eq0.false) (eqb_same c.value_of.result 0 v 0 (λ k. omega arith) (λ k. omega arith))

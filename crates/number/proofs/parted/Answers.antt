@@ -1,6 +1,5 @@
 -- `number::parted` answers `judge`, test by test.
 use native.Mathlib.Omega.{arith}
-use mathlib.Core.Path.{◌≡◌}
 use borrow.Author.Tests.{lt-ltb, le-ltb}
 use Rattle.decimal.specs.Digits.{value}
 use Rattle.number.specs.Limits.{max_exponent}
@@ -12,9 +11,3 @@ returns-then-e-gt-MAX_EXPONENT c = rw (lt-ltb max_exponent (value c.args.exponen
 pub returns-then-after_zero : goal.returns-then-after_zero
 returns-then-after_zero c =
     rw (le-ltb max_exponent (value c.args.exponent.now) (omega arith), ← c.after_zero.ensures, c.if-after_zero.true) c.refuse-then-after_zero.ensures
-
-pub returns : goal.returns
-returns c =
-    let x = value c.args.exponent.now in
-    let k : x ≡ c.value_of_lem.result = omega arith in
-    rw (le-ltb max_exponent x (omega arith), ← c.after_zero.ensures, c.if-after_zero.false, k) c.shifted.ensures

@@ -17,7 +17,7 @@ use Rattle.number.proofs.shifted.Goals as goal
 pub returns-then-i-ge-INTEGER_LIMIT : goal.returns-then-i-ge-INTEGER_LIMIT
 returns-then-i-ge-INTEGER_LIMIT c =
     let a = c.args in
-    let n = c.value_of_lem in
+    let n = c.value_of in
     let x = first a.e a.fraction.now in
     let k = shift_value a.whole.now x n.result c.value_first-i.result n.ensures c.value_first-i.ensures in
     let d = of_append is_digit a.whole.now x c.requires.1 (digits_first a.e a.fraction.now c.requires.2) in
@@ -27,7 +27,7 @@ pub returns-then-v-gt-MAX_PLACES : goal.returns-then-v-gt-MAX_PLACES
 returns-then-v-gt-MAX_PLACES c =
     let a = c.args in
     let m = c.value_first-i in
-    let n = c.value_of_lem in
+    let n = c.value_of in
     let x = first a.e a.fraction.now in
     let k = shift_value a.whole.now x n.result m.result n.ensures m.ensures in
     let d = of_append is_digit a.whole.now x c.requires.1 (digits_first a.e a.fraction.now c.requires.2) in
@@ -37,7 +37,7 @@ pub returns : goal.returns
 returns c =
     let a = c.args in
     let m = c.value_first-i in
-    let n = c.value_of_lem in
+    let n = c.value_of in
     let r = c.after-rest in
     let rest = r.result.now in
     let w = c.trimmed_len-w in
