@@ -3,6 +3,8 @@
 // Each function writes its piece from a place on and answers the next place. What would stand past
 // the area's end is not written and is counted all the same, so the last place tells the bytes
 // needed. A place is kept at MOST once it is there.
+#![tactic(auto)]
+
 ghost use Rattle.std.specs.Prelude.{◌≡◌, [], ◌∷◌, ◌+◌, min, set};
 ghost use Rattle.decimal.specs.Digits.{numeral};
 ghost use Rattle.area.specs.Area.{Wrote, most};

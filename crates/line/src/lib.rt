@@ -1,6 +1,8 @@
 // The bench program's input in pieces: what is to be done with the bytes held, and what job a line is.
 //
 // specs/Cuts.antt says where a line ends, specs/Jobs.antt which job it is.
+#![tactic(auto)]
+
 ghost use Rattle.std.specs.Prelude.{◌≡◌, ◌+◌, ◌≤◌, min, take, drop};
 ghost use Rattle.line.specs.Jobs.{job_of, job_at, job_with, last_field};
 ghost use Rattle.line.specs.Cuts.{last_cut, cut_of, Kept};

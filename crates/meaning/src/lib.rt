@@ -1,4 +1,6 @@
 // What the relations, clauses and conditions at places of a pack's arrays mean of a number.
+#![tactic(auto)]
+
 ghost use Rattle.std.specs.Prelude.{◌≡◌, ◌%◌, ◌≤◌, ◌<◌, min, get_or};
 ghost use Rattle.decimal.specs.Lists.{any};
 ghost use Rattle.pack_rules.specs.Room.{clause_room, range_room, relation_room};

@@ -1,6 +1,6 @@
 -- Theorems of rounding, over every step: the number of steps is the nearest with ties to even, and there is only one such.
 use mathlib.Core.Path.{◌≡◌, refl, sym, ap, ◌∙◌}
-use Prim.Native.Nat.{ℕ, ◌+◌, ◌*◌, ◌-◌, ◌/◌, ◌%◌, ◌^◌, ◌≤◌, ◌<◌}
+use Prim.Native.Nat.{ℕ, ◌+◌, ◌*◌, ◌/◌, ◌%◌, ◌^◌, ◌≤◌, ◌<◌}
 use native.Mathlib.Omega.{arith}
 use native.Mathlib.Nat.{add-zero, div-add-mod', mod-lt, mul-le-mul_right, mul-le-mul}
 use native.Mathlib.Decide.{dec_le, ℕ_discrete}

@@ -2,6 +2,8 @@
 // sign, digits and exponent; crate number judges the parts and says what is read.
 //
 // The entry is read_number.
+#![tactic(auto)]
+
 ghost use Rattle.std.specs.Prelude.{◌≡◌, eqb};
 ghost use Rattle.decimal.specs.Choice.{if◌then◌else◌, both};
 ghost use Rattle.decimal.specs.Digits.{AllDigits, run};

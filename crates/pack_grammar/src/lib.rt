@@ -1,5 +1,6 @@
 // What a well-formed pack is, and what reading it answers: definitions (specs/), theorems (proofs/) and
 // document 01's limits as constants (specs/Limits.antt), no function.
+#![tactic(auto)]
 
 pub const MAX_BYTES: usize = 4096;
 

@@ -1,5 +1,5 @@
 -- The rules that a parsed pack's arrays hold are those at its places.
-use mathlib.Core.Path.{◌≡◌, refl, sym, ap, ◌∙◌, subst}
+use mathlib.Core.Path.{◌≡◌, refl, sym, ap, ◌∙◌}
 use mathlib.Core.List.{List, [], ◌∷◌, ◌++◌}
 use Prim.Native.Nat.{ℕ, zero, suc, ◌+◌, ◌*◌, ◌-◌, ◌≤◌, ◌<◌, min}
 use native.Mathlib.Omega.{arith}
@@ -9,7 +9,7 @@ use lib.ListN.{length, get_or, take, drop, length-take}
 use lib.Seq.{get_or-take}
 use Rattle.pack_rules.specs.Syntax.{Range, Relation, Rule}
 use Rattle.pack_rules.specs.Held.{Pack, Row, rows_of, row_ends, parts, keyword_of, ranges_from, relations_from, rules_from, held_ranges, held_relations, held_clauses, held_rules}
-use Rattle.pack_rules.specs.Stretch.{stretch, start_at, range_at, ranges_in, end_at, ranges_from_at, Table, table, table_of, relation_at, relations_in, clause_at, clauses_in, rule_at}
+use Rattle.pack_rules.specs.Stretch.{stretch, start_at, range_at, ranges_in, end_at, ranges_from_at, table_of, relation_at, clause_at, rule_at}
 
 -- ---- stretches
 

@@ -12,6 +12,8 @@
 //   relations   ClauseEnds    where the relations of each clause end
 //   keyword     Keywords      of each rule: its keyword's number,
 //   clauses     RuleEnds      and where its clauses end; `other:` has none
+#![tactic(auto)]
+
 ghost use Rattle.std.specs.Prelude.{◌≡◌, ◌≤◌, ◌<◌, min};
 ghost use Rattle.pack_rules.specs.Room.{range_room, relation_room};
 ghost use Rattle.pack_rules.specs.Stretch.{end_at, ranges_from_at, single_at};

@@ -4,17 +4,15 @@ use mathlib.Core.Bool.{Bool, true, false}
 use mathlib.Core.List.{List, [], ◌∷◌}
 use Prim.Native.Nat.{ℕ, zero, suc, ◌+◌, ◌-◌, ◌≤◌, ◌<◌}
 use native.Mathlib.Omega.{arith}
-use native.Mathlib.Numerals.{add-one}
 use lib.Dec.{eqb, ltb}
-use lib.ListN.{length, get_or, take, drop, drop_of_length-le, length-drop}
-use lib.Seq.{drop-cons}
+use lib.ListN.{length, get_or, take, drop, length-drop}
 use borrow.Author.Tests.{eq-eqb, ne_eqb, eqb-false, ltb-true, ltb-false}
 use Rattle.decimal.specs.Choice.{if◌then◌else◌}
-use Rattle.decimal.specs.Digits.{is_digit, run}
+use Rattle.decimal.specs.Digits.{is_digit}
 use Rattle.decimal.proofs.Choices.{choice, tested, not_both}
 use Rattle.decimal.proofs.Runs.{run_le, run_some}
 use Rattle.pack_token.specs.Spelling.{starts, length_of}
-use Rattle.pack_token.specs.Token.{whites, white_len, is_white, is_letter, letters, dots, differ, token_len, piece_len, Token, tokens_for, tokens}
+use Rattle.pack_token.specs.Token.{whites, white_len, is_white, is_letter, dots, differ, token_len, piece_len, Token, tokens_for, tokens}
 use Rattle.pack_token.proofs.Spellings.{starts_le, length_of_le}
 
 -- ---- white space by its first byte: one byte, none, or one of the longer spellings

@@ -2,6 +2,8 @@
 //
 // specs/Token.antt says what the tokens of a text are. Every function is total: it takes any bytes
 // and any place.
+#![tactic(auto)]
+
 ghost use Rattle.std.specs.Prelude.{◌≡◌, true, false, ◌≤◌, eqb, ltb, length, get_or, drop};
 ghost use Rattle.decimal.specs.Choice.{if◌then◌else◌};
 ghost use Rattle.pack_token.specs.Spelling.{same, starts, length_of};

@@ -1,5 +1,5 @@
 -- Document 01, "The pattern": the number part, its grammar and what it asks for.
-use Rattle.std.specs.Prelude.{Bool, true, false, not, List, [], ◌∷◌, ℕ, zero, suc, ◌+◌, ◌*◌, ◌-◌, min, ltb, eqb, length, get_or, take, drop}
+use Rattle.std.specs.Prelude.{Bool, true, false, not, List, [], ◌∷◌, ℕ, suc, ◌+◌, ◌*◌, ◌-◌, min, ltb, eqb, length, get_or, take, drop}
 use Rattle.decimal.specs.Lists.{run_of}
 use Rattle.decimal.specs.Choice.{if◌then◌else◌}
 use Rattle.decimal.specs.Digits.{is_digit, begins, run}

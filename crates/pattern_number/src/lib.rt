@@ -1,6 +1,8 @@
 // Reads the number part of a pattern: whether it has its grammar, and what it asks for.
 //
 // The entry is read_part. specs/Shape.antt says what is read of which bytes.
+#![tactic(auto)]
+
 ghost use Rattle.std.specs.Prelude.{◌≡◌, false, [], ◌∷◌, ◌+◌, ◌-◌, ◌≤◌, ◌<◌, min, length, get_or, drop};
 ghost use Rattle.pattern_number.specs.Shape.{between, count, misplaced, seen_after, ordered, bad_comma, apart, whole_fits, hashes, fraction_fits, number_fits, last, primary_of, secondary_of, unit, units_from, step_of, shape_of, step_cap, capped};
 

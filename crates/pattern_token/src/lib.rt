@@ -2,6 +2,8 @@
 //
 // specs/Items.antt says which item stands where. A new item is a line in the enum, in bare or token_at
 // and in their definitions.
+#![tactic(auto)]
+
 ghost use Rattle.std.specs.Prelude.{◌≡◌, ◌+◌, ◌≤◌, ◌<◌, length, drop};
 ghost use Rattle.pattern_token.specs.Items.{starts, is_place, is_reserved, bare_of, token_at, quoted_after, is_number};
 

@@ -5,6 +5,8 @@
 // what it stands for. specs/Spelled.antt says the same as relations, and proofs/ that both agree. A
 // crate with kinds of its own has the match of a kind byte and the loops; each turn of a loop is a law
 // of proofs/Walks.antt.
+#![tactic(auto)]
+
 ghost use Rattle.std.specs.Prelude.{◌≡◌};
 ghost use Rattle.records.specs.Entries.{fitting, no_head, head_in, nowhere};
 

@@ -3,6 +3,8 @@
 // The entry is round_into. specs/Nearest.antt says which multiple is meant, specs/Limits.antt the
 // bounds. Two engines find it: the word engine where a machine integer holds the value, the digit
 // engine, which works in the area of decimal digits, the highest first, for every value.
+#![tactic(auto)]
+
 ghost use Rattle.std.specs.Prelude.{◌≡◌, true, ◌+◌, ◌*◌, ◌-◌, ◌/◌, ◌%◌, ◌^◌, ◌≤◌, ◌<◌, length};
 ghost use Rattle.decimal.specs.Digits.{AllDigits, value, figures};
 ghost use Rattle.nearest.specs.Nearest.{up, steps_of, units_of};

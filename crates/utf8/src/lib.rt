@@ -2,6 +2,8 @@
 //
 // Every function is total. specs/Utf8.antt says which bytes are UTF-8, specs/Scalar.antt which bytes
 // spell a code point.
+#![tactic(auto)]
+
 ghost use Rattle.std.specs.Prelude.{◌≡◌, ◌≤◌, ◌<◌, length};
 ghost use Rattle.utf8.specs.Utf8.{char_bytes, low_second, high_second, continues, rest_fits, char_len, is_utf8, is_char};
 
