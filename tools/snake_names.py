@@ -65,6 +65,7 @@ OTHER = {
 NAME = r'[^\s(){}.;,@"«»`:]+'
 TOKEN = re.compile(rf'(?P<string>"(?:[^"\\\n]|\\.)*")|(?P<path>\bRattle(?:\.{NAME})+)|(?P<dotted>\.{NAME})|(?P<name>{NAME})')
 DECLARED = re.compile(r"(?m)^ *(?:(?:abbrev|unfoldable|private|pub) )*([^\s(){}.:,;@\"]+)(?: \{[^{}\n]*\})* :(?= |$)")
+LENT = re.compile(r"(?m)^ *use (?!Rattle\.(?!std\b))[^{\n]*\{([^}\n]*)\}$")
 ALIAS = re.compile(r"(?m)^ *use Rattle[^{\n]* as (\S+)$")
 
 
@@ -150,6 +151,9 @@ class Older(dict):
 def turned(path, text, names, older):
     comment = "--" if path.endswith(".antt") else "//"
     lines, aliases = [], ALIAS.findall(text)
+    # A name that the file has from a library stays.
+    lent = {n.strip().split(" as ")[-1] for m in LENT.finditer(text) for n in m[1].split(",")}
+    names = {n: new for n, new in names.items() if n not in lent}
     # A field of a record of the repository's own; in an answer the name behind a dot may be a label.
     dotted = path.endswith(".antt") and not of_function(path)
     for line in text.split("\n"):

@@ -9,18 +9,18 @@
 use decimal::{DigitValue, Places};
 
 // A place in a text: the index of a byte, or the text's length.
-#[derive(Drop)]
+#[derive(Clone, Copy)]
 pub struct Place(pub usize);
 
 // Two rules of a pack, counted from 1.
-#[derive(Drop)]
+#[derive(Clone, Copy)]
 pub struct Pair {
     pub first: u8,
     pub second: u8,
 }
 
 // An admitted number, as the check names it.
-#[derive(Drop)]
+#[derive(Clone, Copy)]
 pub struct Witness {
     pub e: u8,
     pub v: Places,
@@ -29,7 +29,7 @@ pub struct Witness {
 }
 
 // The rows of a number.
-#[derive(Drop)]
+#[derive(Clone, Copy)]
 pub enum NumberRow {
     NumberTooLong,
     NotANumber,
@@ -40,7 +40,7 @@ pub enum NumberRow {
 }
 
 // The rows of a pack that return a place.
-#[derive(Drop)]
+#[derive(Clone, Copy)]
 pub enum PackRow {
     NotAPack,
     ValueTooLarge,
@@ -52,14 +52,14 @@ pub enum PackRow {
 
 // The rows of the rules of a pack that is read: two that a number meets, two that the check finds met by
 // one number.
-#[derive(Drop)]
+#[derive(Clone, Copy)]
 pub enum RulesRow {
     TwoRulesMet(Pair),
     RulesClash(Pair, Witness),
 }
 
 // The rows of a pattern.
-#[derive(Drop)]
+#[derive(Clone, Copy)]
 pub enum PatternRow {
     PatternTooLong,
     PatternNotUtf8,
@@ -71,21 +71,21 @@ pub enum PatternRow {
 }
 
 // The rows of a symbol record.
-#[derive(Drop)]
+#[derive(Clone, Copy)]
 pub enum SymbolRow {
     NotASymbolRecord,
     BadSymbolBody,
 }
 
 // The rows of printing what has been read.
-#[derive(Drop)]
+#[derive(Clone, Copy)]
 pub enum PrintRow {
     PrintedExponent,
     AreaTooShort(usize),
 }
 
 // A row of the table with what it returns besides, by what it judges.
-#[derive(Drop)]
+#[derive(Clone, Copy)]
 pub enum Refusal {
     Number(NumberRow),
     PackTooLong,
@@ -100,13 +100,13 @@ pub enum Refusal {
 pub const MAX_FIGURES: usize = 7;
 
 // The figures of a refusal: the first `count` of `values`, and zeros behind them.
-#[derive(Drop)]
+#[derive(Clone, Copy)]
 pub struct FigureList {
     pub count: usize,
     pub values: [u64; MAX_FIGURES],
 }
 
-#[derive(Drop)]
+#[derive(Clone, Copy)]
 pub enum Keyword {
     Zero,
     One,
@@ -117,7 +117,7 @@ pub enum Keyword {
 }
 
 // A keyword's letters: the first `len` of `letters`, and zeros behind them.
-#[derive(Drop)]
+#[derive(Clone, Copy)]
 pub struct Letters {
     pub len: usize,
     pub letters: [u8; 5],

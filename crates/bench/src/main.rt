@@ -8,7 +8,7 @@ use line::Cut;
 // Answers are written out once so many bytes of them are there: the longest answer fits behind.
 const ENOUGH: usize = 61_440;
 
-#[derive(Drop)]
+#[derive(Clone, Copy)]
 struct State {
     // the bytes of the buffer that are read and not yet answered
     from: usize,

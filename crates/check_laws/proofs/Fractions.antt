@@ -8,7 +8,7 @@ use native.Mathlib.Omega.{arith}
 use native.Mathlib.Nat.{mul-le-mul_right, mul-lt-mul_of_pos_right, zero-mul}
 use lib.Pow.{pow-add}
 use lib.Dec.{eqb, ltb, leb}
-use borrow.Author.Tests.{eqb-true, eqb-false, eq-eqb, ne_eqb, ltb-true, lt-ltb, leb-true, leb-false, not_true}
+use borrow.Author.Tests.{eqb-true, eqb-false, eq-eqb, ne_eqb, ltb-true, lt-ltb, leb-true, leb-false, not-true}
 use Rattle.decimal.specs.Choice.{if◌then◌else◌, both, either}
 use Rattle.decimal.proofs.Choices.{tested, choice, not_both, both_true}
 use Rattle.decimal.proofs.Values.{power_pos, power_mono}
@@ -231,7 +231,7 @@ module _ (k : ℕ) (hk : k < max_places) (c : List Relation) where
           w_le = omega arith;
           whole = ap (λ (x : ℕ). tail_of k c * 10 ^ x) (let e : tail_places k (tail_of k c) c - (tail_places k (tail_of k c) c - k) ≡ k = omega (arith, placed_at.low) in e);
           t_lt = t_small;
-          odd = λ _. eqb-false (tail_of k c % 10) 0 (not_true _ (both_true _ _ t_passes).0);
+          odd = λ _. eqb-false (tail_of k c % 10) 0 (not-true _ (both_true _ _ t_passes).0);
         }
 
     f_below : tail_of k c * 10 ^ k < 10 ^ tail_places k (tail_of k c) c

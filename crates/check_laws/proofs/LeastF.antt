@@ -8,7 +8,7 @@ use native.Mathlib.Omega.{arith}
 use native.Mathlib.Nat.{mul-le-mul_right}
 use lib.Pow.{pow-add}
 use lib.Dec.{ltb, leb, eqb}
-use borrow.Author.Tests.{ne_eqb, eqb-false, leb-true, lt-ltb, ltb-true, not_true}
+use borrow.Author.Tests.{ne_eqb, eqb-false, leb-true, lt-ltb, ltb-true, not-true}
 use Rattle.decimal.specs.Choice.{if◌then◌else◌, both}
 use Rattle.decimal.proofs.Choices.{tested, not_both, both_true}
 use Rattle.decimal.proofs.Values.{power_pos, power_mono}
@@ -56,7 +56,7 @@ some_t : (k x : ℕ) (c : List Relation) → passes_all (query_t k) c x ≡ true
 unfolding passes_all ends
 some_t k x c h =
     let b = both_true (not (eqb (x % 10) 0)) (all (λ (r : Relation). passes (query_t k) r x) c) h in
-    let n = eqb-false (x % 10) 0 (not_true (eqb (x % 10) 0) b.0) in
+    let n = eqb-false (x % 10) 0 (not-true (eqb (x % 10) 0) b.0) in
     ⊎_elim (λ z. absurd (n (let e : x ≡ 0 = omega arith in rw e))) (λ z. z) (split x 1)
 
 -- ---- the bound

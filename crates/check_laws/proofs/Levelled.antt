@@ -9,7 +9,7 @@ use native.Mathlib.Nat.{mod-zero, mod-one, dvd-mul_right, mod-mod_of_dvd, mul-di
 use lib.Dec.{leb, eqb}
 use lib.Pow.{pow-add}
 use lib.Arith.{mod-mul}
-use borrow.Author.Tests.{eqb-true, eqb-false, eq-eqb, ne_eqb, leb-true, leb-false, not_true}
+use borrow.Author.Tests.{eqb-true, eqb-false, eq-eqb, ne_eqb, leb-true, leb-false, not-true}
 use Rattle.decimal.specs.Choice.{if◌then◌else◌, both}
 use Rattle.decimal.proofs.Choices.{choice, tested, not_both, both_true, both_one}
 use Rattle.decimal.specs.Lists.{all}
@@ -135,7 +135,7 @@ module _ (q : Query) (r : Relation) where
       apart n = ⊎_elim (λ a. a) (λ a. absurd (n (omega arith))) (split j J)
 
   asked_pos : asked q r ≡ true → 0 < factor q r.operand
-  asked_pos e = let n = eqb-false (factor q r.operand) 0 (not_true _ e) in ⊎_elim (λ h. absurd (n (omega arith))) (λ h. h) (split (factor q r.operand) 1)
+  asked_pos e = let n = eqb-false (factor q r.operand) 0 (not-true _ e) in ⊎_elim (λ h. absurd (n (omega arith))) (λ h. h) (split (factor q r.operand) 1)
 
   split_low : (x : ℕ) → asked q r ≡ true → At (factor q r.operand) r.modulus (level_in q r) → level_in q r < levels
       → test r (x * factor q r.operand) ≡ both (own_one q window r x) (under_one q r levels x)
@@ -164,7 +164,7 @@ module _ (q : Query) (r : Relation) where
       go : (a : Bool) → asked q r ≡ a → (if a then not (eqb (level_in q r) stray) else true) ≡ true
           → (if a then test r (x * factor q r.operand) else true) ≡ both (own_one q window r x) (under_one q r levels x)
       go true a f =
-          let known = level_at (factor q r.operand) r.modulus (asked_pos a) (not_true _ f) in
+          let known = level_at (factor q r.operand) r.modulus (asked_pos a) (not-true _ f) in
           ⊎_elim (split_low x a known) (split_high x a known) (split (level_in q r) levels)
       go false a f =
           sym (ap₂ both (own_unasked window x a) (below_none levels x (λ j h. own_unasked j (x % 10 ^ j) a)))

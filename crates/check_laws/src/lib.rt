@@ -10,7 +10,7 @@ pub mod limits;
 use answer::{Pair, Witness};
 use decimal::Places;
 
-#[derive(Drop)]
+#[derive(Clone, Copy)]
 pub enum Checked {
     Passes,
     Clashes(Pair, Witness),
@@ -18,7 +18,7 @@ pub enum Checked {
 
 // A search for a number x: n, i, f and t are each x times their factor, or no part of the search where
 // it is 0. Where `odd` is true, x must not end in the digit 0.
-#[derive(Drop)]
+#[derive(Clone, Copy)]
 pub struct Query {
     pub n: u64,
     pub i: u64,
@@ -29,7 +29,7 @@ pub struct Query {
 
 // Two stretches of a pack's relations, which together are one clause: those at `from` to before `to`,
 // and those at `start` to before `stop`.
-#[derive(Drop)]
+#[derive(Clone, Copy)]
 pub struct Span {
     pub from: usize,
     pub to: usize,
@@ -38,14 +38,14 @@ pub struct Span {
 }
 
 // A number's v: from `least` to `most`.
-#[derive(Drop)]
+#[derive(Clone, Copy)]
 pub struct Bounds {
     pub least: Places,
     pub most: Places,
 }
 
 // No number below these can be: i where f is 0, i where it is not, and t.
-#[derive(Drop)]
+#[derive(Clone, Copy)]
 pub struct Floors {
     pub whole: u64,
     pub part: u64,

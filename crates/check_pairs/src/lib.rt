@@ -18,7 +18,7 @@ use pack_rules::{ClauseEnds, Columns, Keywords, RULE_ROOM, RangeEnds, RuleEnds};
 
 // The first rule behind a rule that clashes with it, and the number; `at` is past the rules where none
 // does.
-#[derive(Drop)]
+#[derive(Clone, Copy)]
 pub struct Clash {
     pub at: usize,
     pub spot: Witness,

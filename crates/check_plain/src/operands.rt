@@ -8,7 +8,7 @@ use decimal::{DigitValue, Places, num};
 use number::Number;
 
 // The fraction digits without trailing zeros: their count and value.
-#[derive(Drop)]
+#[derive(Clone, Copy)]
 pub struct Trimmed {
     pub w: Places,
     pub t: DigitValue,

@@ -9,7 +9,7 @@ pub mod range;
 pub mod relation;
 
 // The same is said of every number from one on that is before `stop`.
-#[derive(Drop)]
+#[derive(Clone, Copy)]
 pub struct Run {
     pub says: bool,
     pub stop: u64,

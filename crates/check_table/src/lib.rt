@@ -8,14 +8,14 @@ pub mod find;
 pub mod level;
 
 // A number that is found, and up to where the relations of its level hold.
-#[derive(Drop)]
+#[derive(Clone, Copy)]
 pub struct Found {
     pub at: u64,
     pub stop: u64,
 }
 
 // What became of a table: it stands, or no number passes its levels, or there was no room.
-#[derive(Drop)]
+#[derive(Clone, Copy)]
 pub enum Built {
     Stands,
     Empty,

@@ -8,7 +8,7 @@ use check_laws::Checked;
 use pack_rules::{ClauseEnds, Columns, Keywords, RangeEnds, RuleEnds};
 use pack_verdict::Read;
 
-#[derive(Drop)]
+#[derive(Clone, Copy)]
 pub enum PackCheck {
     Passes,
     Refused(Refusal),

@@ -11,9 +11,9 @@ pub mod scan;
 pub mod value;
 
 // A count of digit places: document 01's v and w.
-#[derive(Drop)]
+#[derive(Clone, Copy)]
 pub struct Places(pub u8);
 
 // The value that digits spell: document 01's f and t.
-#[derive(Drop)]
+#[derive(Clone, Copy)]
 pub struct DigitValue(pub u64);

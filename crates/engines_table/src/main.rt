@@ -14,7 +14,7 @@ use pack_rules::{ClauseEnds, Columns, Keywords, RangeEnds, RuleEnds};
 use pack_verdict::Read;
 
 // What the two engines answer for one pack.
-#[derive(Drop)]
+#[derive(Clone, Copy)]
 pub struct Answers {
     pub fast: Checked,
     pub plain: Checked,

@@ -19,7 +19,7 @@ use symbols::Symbol;
 
 // A number's affixes: whether the minus symbol stands before them, and where they stand in the
 // pattern.
-#[derive(Drop)]
+#[derive(Clone, Copy)]
 pub struct Affixes {
     pub minus: bool,
     pub prefix: Span,

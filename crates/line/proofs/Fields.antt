@@ -1,20 +1,18 @@
 -- The job of a line, by its letter and the lengths of its fields, is that of its fields.
-use mathlib.Core.Path.{◌≡◌, refl, sym, ap, ◌∙◌, subst}
+use mathlib.Core.Path.{◌≡◌, refl, sym, ◌∙◌}
 use mathlib.Core.Bool.{Bool, true, false}
-use mathlib.Core.List.{List, [], ◌∷◌, ◌++◌}
-use Prim.Native.Nat.{ℕ, zero, suc, ◌+◌, ◌≤◌, ◌<◌}
+use mathlib.Core.List.{List, [], ◌∷◌}
+use Prim.Native.Nat.{ℕ, suc, ◌+◌, ◌≤◌, ◌<◌}
 use native.Mathlib.Omega.{arith}
 use lib.Dec.{ltb, eqb}
 use borrow.Author.Tests.{ltb-true, ltb-false, lt-ltb, le-ltb, eqb-true, eqb-false, eq-eqb, ne_eqb}
 use lib.ListN.{length, get_or, take, drop}
-use Rattle.decimal.specs.Choice.{if◌then◌else◌, both}
 use Rattle.decimal.specs.Split.{until, on_first, split}
-use Rattle.decimal.proofs.Choices.{tested, choices, not_both, both_false}
+use Rattle.decimal.proofs.Choices.{tested, both_false}
 use Rattle.decimal.proofs.Splits.{until_le, split_one, split_first}
-use Rattle.line.specs.Jobs.{Job, is_job, job_in, job_of, job_at, job_with, last_field}
-use Rattle.line.specs.Jobs.Job.{select, check, format, none}
+use Rattle.line.specs.Jobs.{job_in, job_of, job_at, job_with, last_field}
+use Rattle.line.specs.Jobs.Job.{none}
 use Rattle.line.specs.declared.JobCut.{JobCut}
-use Rattle.line.specs.declared.JobCut.TheVariants.{SelectAt, CheckAt, FormatAt, Unknown}
 
 -- a first field that is no single letter makes no job
 no_letter : (f : List ℕ) (fs : List (List ℕ)) → (length f ≡ 1 → ⊥) → job_in (f ∷ fs) ≡ none

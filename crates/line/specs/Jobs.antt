@@ -1,5 +1,5 @@
 -- Document 01: "`s`, pack, number; `c`, pack; `f`, pattern, number (standard symbols); fields parted by one TAB."
-use Rattle.std.specs.Prelude.{Bool, true, false, List, [], ◌∷◌, ℕ, ◌+◌, ltb, eqb, length, get_or, take, drop}
+use Rattle.std.specs.Prelude.{Bool, false, List, [], ℕ, ◌+◌, ltb, eqb, length, get_or, take, drop}
 use Rattle.decimal.specs.Choice.{if◌then◌else◌, both}
 use Rattle.decimal.specs.Split.{split, until}
 use Rattle.line.specs.declared.JobCut.{JobCut}

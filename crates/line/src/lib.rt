@@ -10,7 +10,7 @@ ghost use Rattle.line.specs.Cuts.{last_cut, cut_of, Kept};
 pub const MAX_LINE: usize = 8192;
 
 // What is to be done with the bytes held.
-#[derive(Drop)]
+#[derive(Clone, Copy)]
 pub enum Cut {
     // Answer the line of so many bytes, and go on behind it and its LF.
     Line(usize),
@@ -52,7 +52,7 @@ pub fn cut_line(s: &[u8], long: bool, last: bool) -> Cut
 }
 
 // The job of a line, by the lengths of its fields.
-#[derive(Drop)]
+#[derive(Clone, Copy)]
 pub enum JobCut {
     // `s`: a pack of so many bytes behind the letter and its TAB, and a number behind the next TAB.
     SelectAt(usize),

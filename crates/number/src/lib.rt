@@ -22,7 +22,7 @@ pub const INTEGER_LIMIT: u64 = 1_000_000_000_000_000;
 pub const MAX_PLACES: usize = 9;
 
 // A number as read: its sign, and document 01's operands of the absolute value.
-#[derive(Drop)]
+#[derive(Clone, Copy)]
 pub struct Number {
     pub negative: bool,
     pub e: u8,
@@ -33,7 +33,7 @@ pub struct Number {
     pub t: DigitValue,
 }
 
-#[derive(Drop)]
+#[derive(Clone, Copy)]
 pub enum Reading {
     Is(Number),
     Refused(Refusal),

@@ -1,5 +1,7 @@
 // Reads number texts, one a line, and prints each one's sign and operands, i v w f t e, or `!` and
 // the number of its refusal.
+#![tactic(auto)]
+
 use libc::{STDIN_FILENO, STDOUT_FILENO};
 use number::{Number, Reading};
 

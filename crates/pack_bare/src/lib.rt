@@ -2,6 +2,8 @@
 // arrays of a parsed pack (`bare_read`, proofs/Bares.antt).
 //
 // A text whose first token is not `other` is left there: most packs are told by one word.
+#![tactic(auto)]
+
 ghost use Rattle.std.specs.Prelude.{◌≡◌, [], ◌∷◌, take, drop};
 ghost use Rattle.pack_token.specs.Spelling.{same};
 ghost use Rattle.pack_token.specs.Token.{token_len, tokens};

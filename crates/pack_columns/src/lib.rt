@@ -3,6 +3,8 @@
 //
 // specs/Stored.antt has the stores as definitions. A place behind the array's end stores nothing, so
 // every function is total. The entries are put_values, put_bytes, put_places, put_row and less_one.
+#![tactic(auto)]
+
 ghost use Rattle.std.specs.Prelude.{◌≡◌, ◌-◌, min};
 ghost use Rattle.pack_columns.specs.Stored.{set_if, set_row_if, code_of, row_for};
 

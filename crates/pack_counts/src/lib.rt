@@ -1,6 +1,8 @@
 // What a token closes, and how the counts of what has been read change by that.
 //
 // specs/Counts.antt has both as definitions; the functions are those. Every function is total.
+#![tactic(auto)]
+
 ghost use Rattle.std.specs.Prelude.{◌≡◌};
 ghost use Rattle.decimal.specs.Choice.{either};
 ghost use Rattle.pack_counts.specs.Counts.{more_of, more_if, zero_if, nothing, ends_bare, ends_relation, counts_after};
@@ -10,7 +12,7 @@ use pack_token::same_text;
 
 // How many ranges, relations, clauses and rules the arrays hold; how many values the open relation,
 // relations the open clause and clauses the open rule has.
-#[derive(Drop)]
+#[derive(Clone, Copy)]
 pub struct Counts {
     pub ranges: usize,
     pub relations: usize,
@@ -22,7 +24,7 @@ pub struct Counts {
 }
 
 // What a token closes.
-#[derive(Drop)]
+#[derive(Clone, Copy)]
 pub struct Closes {
     pub relation: bool,
     pub clause: bool,

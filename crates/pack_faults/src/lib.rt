@@ -1,6 +1,8 @@
 // Which of the rows 22 to 26 a token falls under, and the first fault.
 //
 // specs/Faults.antt has both as definitions; the functions are those. Every function is total.
+#![tactic(auto)]
+
 ghost use Rattle.std.specs.Prelude.{◌≡◌, take};
 ghost use Rattle.decimal.specs.Choice.{if◌then◌else◌};
 ghost use Rattle.pack_token.specs.Spelling.{same};
@@ -15,7 +17,7 @@ use pack_token::same_text;
 
 // The place of the last token before nothing could follow; the first fault's number, 0 for none, and
 // its place.
-#[derive(Drop)]
+#[derive(Clone, Copy)]
 pub struct Mark {
     pub stop: usize,
     pub row: u8,

@@ -15,10 +15,8 @@ use Rattle.pack_token.specs.Token.{Token}
 use Rattle.pack_grammar.specs.Reader.{segments, is_dead, Parsed, rules_from}
 use Rattle.pack_grammar.specs.Reader.Parsed.{Trees, Bad}
 use Rattle.pack_token.proofs.Spellings.{both_0, both_1}
-use Rattle.pack_grammar.proofs.Sound.{told_rule}
 use Rattle.pack_grammar.proofs.Complete.{complete}
-use Rattle.pack_grammar.proofs.Viable.{Far, onward, closed, far, outset, far_append, far_rule, whole_alive, alive_before, been, halt, last, behind, same_halt, plain_segments, some_segments, first_of, others_of, pack_end, tokens_of}
-use Rattle.decimal.proofs.Choices.{both_in}
+use Rattle.pack_grammar.proofs.Viable.{Far, onward, closed, far, outset, far_append, far_rule, whole_alive, alive_before, halt, last, behind, same_halt, plain_segments, some_segments, first_of, others_of, pack_end, tokens_of}
 use Rattle.decimal.specs.Lists.{all}
 
 bad_rules : {A : Type 0} {a : ℕ} {rs : List RuleTree} → Bad a ≡ Trees rs → A

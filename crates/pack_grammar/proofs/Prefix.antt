@@ -18,7 +18,7 @@ use Rattle.pack_token.specs.Token.{whites, white_len, is_white, is_letter, lette
 use Rattle.pack_token.proofs.Spellings.{both_0, both_1}
 use Rattle.pack_token.proofs.Pieces.{piece, pieced, tokens_turn}
 use Rattle.pack_grammar.specs.Grammar.{Text, colon, equal, other}
-use Rattle.pack_grammar.specs.WellFormed.{texts, WellFormed, Culprit, Unfinished, PackWith}
+use Rattle.pack_grammar.specs.WellFormed.{texts, Culprit, Unfinished, PackWith}
 use Rattle.pack_grammar.specs.Segment.{words}
 use Rattle.pack_grammar.specs.Steps.{State}
 use Rattle.pack_grammar.specs.Steps.State.{WantsName, WantsColon, WantsNothing, WantsOperand, HasOperand, WantsModulus, HasModulus, WantsValue, HasValue, WantsUpper, HasUpper, Dead}

@@ -16,7 +16,7 @@ use Rattle.pack_grammar.specs.Steps.{steps, Read, ends}
 use Rattle.pack_grammar.specs.Steps.State.{WantsName}
 use Rattle.pack_grammar.specs.Steps.Read.{Whole, Cut}
 use Rattle.pack_grammar.specs.Limits.{max_bytes}
-use Rattle.pack_grammar.specs.Segment.{words, IsRule, AreRules, none, more, or_any, read_of, tree_of, segment_rule}
+use Rattle.pack_grammar.specs.Segment.{words, AreRules, none, more, or_any, read_of, tree_of, segment_rule}
 use Rattle.pack_token.specs.Token.{tokens}
 use Rattle.pack_grammar.specs.Reader.{segments, Stop, stop, Fault, fault_in, again, keyword_in, Parsed, and_then, rules_from, fault_from, judge, read_pack}
 use Rattle.pack_grammar.specs.Reader.Stop.{Fine, Stuck}

@@ -6,7 +6,7 @@ use Prim.Native.Nat.{ℕ, suc}
 use native.Mathlib.Omega.{arith}
 use lib.Dec.{ltb, leb}
 use lib.ListN.{length, length-append}
-use borrow.Author.Tests.{ltb-true, ltb-false, le-leb, lt-leb, not_true}
+use borrow.Author.Tests.{ltb-true, ltb-false, le-leb, lt-leb, not-true}
 use Rattle.decimal.specs.Choice.{if◌then◌else◌, both, either}
 use Rattle.decimal.specs.Digits.{value}
 use Rattle.decimal.proofs.Choices.{tested}
@@ -238,7 +238,7 @@ module _ (d : List RuleTree) (used : List Text) (h : (t : Text) → among t used
   rule_rows_law (Named k cs c) e =
       let a = both_0 (is_word k) _ e in
       let e1 = both_1 (is_word k) _ e in
-      let b = not_true (same k other) (both_0 (not (same k other)) _ e1) in
+      let b = not-true (same k other) (both_0 (not (same k other)) _ e1) in
       let e2 = both_1 (not (same k other)) _ e1 in
       let us = each of_clause or cs ++ of_clause c in
       let p : step WantsName k ≡ WantsColon k = rw a in

@@ -12,7 +12,7 @@ use Rattle.decimal.specs.Choice.{if◌then◌else◌}
 use Rattle.pack_token.specs.Spelling.{same}
 use Rattle.pack_grammar.specs.Grammar.{Text, colon, semi, equal, other, RuleTree, PackTree, each, of_rule, right_rule, of_pack, right_pack}
 use Rattle.pack_token.specs.Token.{Token, tokens_for, tokens, piece_len, is_white}
-use Rattle.pack_grammar.specs.WellFormed.{texts, WellFormed, Begins, Culprit, Unfinished}
+use Rattle.pack_grammar.specs.WellFormed.{texts, WellFormed, Begins}
 use Rattle.pack_grammar.specs.Grammar.PackTree.{Parted}
 use Rattle.pack_grammar.specs.Steps.{State, step, steps, Read, ends}
 use Rattle.pack_grammar.specs.Steps.State.{WantsName, WantsColon, WantsNothing, WantsOperand, HasOperand, WantsModulus, HasModulus, WantsValue, HasValue, WantsUpper, HasUpper, Dead}

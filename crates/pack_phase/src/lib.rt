@@ -1,6 +1,8 @@
 // What may follow in a pack: the phases of reading it, and the phase behind a token.
 //
 // specs/Next.antt has the automaton; proofs/Phases.antt shows that it goes with the grammar's states.
+#![tactic(auto)]
+
 ghost use Rattle.std.specs.Prelude.{◌≡◌, true};
 ghost use Rattle.decimal.specs.Choice.{if◌then◌else◌};
 ghost use Rattle.pack_token.specs.Spelling.{same};
@@ -13,7 +15,7 @@ use pack_token::{first_byte, is_letter, same_text};
 // What a pack has next: a keyword; `:`; nothing more, behind `other:`; an operand; `%` or a sign; a
 // modulus; a sign; a value; `..` or what follows a relation; the upper end of a range; what follows a
 // relation. Dead: nothing makes it well-formed.
-#[derive(Drop)]
+#[derive(Clone, Copy)]
 pub enum Phase {
     Name,
     Colon,

@@ -5,6 +5,8 @@
 // pack_columns has the stores, crate pack_verdict the answer at the end. specs/Board.antt says how a
 // token changes the arrays. They are the caller's, some 22 KB, and are lent: returned by value they
 // would be copied, which costs what reading a small pack does.
+#![tactic(auto)]
+
 ghost use Rattle.std.specs.Prelude.{◌≡◌};
 ghost use Rattle.pack_grammar.specs.Reader.{read_pack};
 ghost use Rattle.pack_rules.specs.Held.{lent};

@@ -38,7 +38,7 @@ pub type RuleEnds = [usize; RULE_ROOM];
 
 // A relation's numbers: its operand's letter, its modulus, whether it is `!=`, and where its ranges
 // begin and end.
-#[derive(Drop)]
+#[derive(Clone, Copy)]
 pub struct Single {
     pub operand: u32,
     pub modulus: u32,

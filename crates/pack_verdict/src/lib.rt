@@ -3,6 +3,8 @@
 // A walk that has gone over all tokens and a last `;` knows where nothing could follow (21) and the
 // first of 22 to 26; 20 goes by the length alone. specs/Verdict.antt has the answer as a definition. The
 // entry is judge_all.
+#![tactic(auto)]
+
 ghost use Rattle.std.specs.Prelude.{◌≡◌};
 ghost use Rattle.pack_grammar.specs.Reader.{row_of};
 ghost use Rattle.pack_verdict.specs.Verdict.{read_by, judged, judged_all};
@@ -13,7 +15,7 @@ use pack_phase::{Phase, same_phase};
 use pack_walk::Walk;
 
 // How many rules a pack has, or why it is not read.
-#[derive(Drop)]
+#[derive(Clone, Copy)]
 pub enum Read {
     Rules(usize),
     Refused(Refusal),

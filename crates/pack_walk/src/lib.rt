@@ -2,6 +2,8 @@
 // and the first fault.
 //
 // specs/Steps.antt has the change as definitions; the functions are those. Every function is total.
+#![tactic(auto)]
+
 ghost use Rattle.std.specs.Prelude.{◌≡◌, []};
 ghost use Rattle.pack_token.specs.Spelling.{same};
 ghost use Rattle.pack_grammar.specs.Grammar.{other};
@@ -18,7 +20,7 @@ use pack_token::{first_byte, same_text};
 
 // What is being read: the rule's keyword number, the relation's operand, modulus and sign, the last value, and
 // whether the token before was `other`.
-#[derive(Drop)]
+#[derive(Clone, Copy)]
 pub struct Current {
     pub key: u8,
     pub operand: u8,
@@ -28,7 +30,7 @@ pub struct Current {
     pub other: bool,
 }
 
-#[derive(Drop)]
+#[derive(Clone, Copy)]
 pub struct Walk {
     pub phase: Phase,
     pub counts: Counts,
@@ -38,7 +40,7 @@ pub struct Walk {
 
 // What a token does: the walk behind it, its value where the phase has a number next (else 0), what it
 // closes, and whether it starts a range or ends one.
-#[derive(Drop)]
+#[derive(Clone, Copy)]
 pub struct Step {
     pub walk: Walk,
     pub value: u32,

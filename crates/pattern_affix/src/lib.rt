@@ -1,6 +1,8 @@
 // What is asked of a pattern's items: affixes, reserved bytes, percent and permille marks.
 //
 // specs/Affixes.antt says what is asked, specs/Firsts.antt which bytes some tokens begin with.
+#![tactic(auto)]
+
 ghost use Rattle.std.specs.Prelude.{◌≡◌, ◌≤◌, length};
 ghost use Rattle.pattern_token.specs.Items.{items};
 ghost use Rattle.pattern_affix.specs.Firsts.{may_reserve, free, mark_byte};
@@ -10,7 +12,7 @@ use decimal::scan;
 use pattern_token::{Item, Mark, is_number, quoted_after, token_in};
 
 // An affix: how many bytes it has, and whether it leaves no quote open.
-#[derive(Drop)]
+#[derive(Clone, Copy)]
 pub struct Affix {
     pub len: usize,
     pub closed: bool,

@@ -20,7 +20,7 @@ const MAX_FRACTION: usize = 9;
 const MAX_STEP: u64 = 999_999;
 
 // A part of the pattern.
-#[derive(Drop)]
+#[derive(Clone, Copy)]
 pub struct Span {
     pub start: usize,
     pub len: usize,
@@ -28,7 +28,7 @@ pub struct Span {
 
 // What a negative number is printed with: the minus symbol before the positive affixes, or a prefix
 // and a suffix of its own.
-#[derive(Drop)]
+#[derive(Clone, Copy)]
 pub enum Negative {
     MinusSymbol,
     Own(Span, Span),
@@ -36,7 +36,7 @@ pub enum Negative {
 
 // A subpattern: how many bytes its parts have, whether its suffix leaves no quote open, what its
 // number part asks for, and how often the marks stand in its affixes.
-#[derive(Drop)]
+#[derive(Clone, Copy)]
 pub struct Half {
     pub prefix: usize,
     pub number: usize,
@@ -50,7 +50,7 @@ pub struct Half {
 // A pattern as read: its parts, least integer digits, least and most fraction digits, group sizes
 // (0: no groups), the step in units of the last fraction place, and what percent or permille
 // multiplies by.
-#[derive(Drop)]
+#[derive(Clone, Copy)]
 pub struct Pattern {
     pub prefix: Span,
     pub number: Span,
@@ -65,7 +65,7 @@ pub struct Pattern {
     pub negative: Negative,
 }
 
-#[derive(Drop)]
+#[derive(Clone, Copy)]
 pub enum PatternReading {
     Is(Pattern),
     Refused(Refusal),

@@ -14,7 +14,7 @@ use Rattle.pattern_token.specs.declared.Mark.TheVariants.{Permille}
 use Rattle.pattern_token.specs.declared.Item.{Item}
 use Rattle.pattern_token.specs.declared.Item.TheVariants.{Text, Symbol, Quote, Reserved}
 use Rattle.pattern_token.specs.declared.Token.{Token}
-use Rattle.pattern_token.specs.Items.{starts, apostrophe, permille, currency, bare_of, token_at, token, quoted_after, is_number, items_from, items}
+use Rattle.pattern_token.specs.Items.{starts, apostrophe, permille, currency, bare_of, token_at, token, quoted_after, is_number, items_from}
 use Rattle.decimal.proofs.Runs.{drop_some}
 
 -- ---- a text begins with a word

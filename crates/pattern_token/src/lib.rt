@@ -10,7 +10,7 @@ ghost use Rattle.pattern_token.specs.Items.{starts, is_place, is_reserved, bare_
 use decimal::{cut, scan};
 
 // A mark of an affix, which prints a symbol.
-#[derive(Drop)]
+#[derive(Clone, Copy)]
 pub enum Mark {
     Minus,
     Plus,
@@ -19,7 +19,7 @@ pub enum Mark {
 }
 
 // What a token of a pattern stands for.
-#[derive(Drop)]
+#[derive(Clone, Copy)]
 pub enum Item {
     Text(u8),
     Symbol(Mark),
@@ -29,7 +29,7 @@ pub enum Item {
     Reserved,
 }
 
-#[derive(Drop)]
+#[derive(Clone, Copy)]
 pub struct Token {
     pub item: Item,
     pub width: usize,

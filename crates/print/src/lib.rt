@@ -19,7 +19,7 @@ use print_area::Written;
 use symbols::Judged;
 
 // A text of so many bytes at the area's front, or why there is none.
-#[derive(Drop)]
+#[derive(Clone, Copy)]
 pub enum Printed {
     Text(usize),
     Refused(Refusal),

@@ -12,7 +12,7 @@ ghost use Rattle.print_area.specs.Whole.{written_in, area_with};
 use pattern_reader::Pattern;
 
 // The text's length where it is written; the bytes needed where it is longer than the area.
-#[derive(Drop)]
+#[derive(Clone, Copy)]
 pub enum Written {
     Whole(usize),
     TooLong(usize),

@@ -16,6 +16,7 @@ use Rattle.records.proofs.Walks.{entries_skip, broken_skip}
 
 -- what holds of all entries holds of each
 pub all_among : {P : Entry → Type 0} {e : Entry} {es : List Entry} → All P es → Among e es → P e
+all_among {P = P} {e = e} none m = elim m [ ]
 all_among (more p a) here = p
 all_among (more p a) (later m) = all_among a m
 

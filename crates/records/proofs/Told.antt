@@ -1,5 +1,5 @@
 -- The tests of entries hold exactly where the relations do: a name stands in the list, a name stands twice, each entry passes a test; and a name's body.
-use mathlib.Core.Path.{◌≡◌, refl, sym, ◌∙◌}
+use mathlib.Core.Path.{◌≡◌, refl, sym}
 use mathlib.Core.Bool.{Bool, true, false}
 use mathlib.Core.List.{List, [], ◌∷◌}
 use mathlib.Core.Logic.{◌↔◌}

@@ -6,13 +6,12 @@ use Prim.Native.Nat.{ℕ, zero, suc, ◌+◌, ◌-◌, ◌≤◌, ◌<◌}
 use native.Mathlib.Omega.{arith}
 use native.Mathlib.Numerals.{add-one}
 use native.Mathlib.Nat.{add-zero}
-use borrow.Author.Tests.{eq-eqb, ne_eqb, eqb-true, eqb-false, ltb-true}
+use borrow.Author.Tests.{eq-eqb, ne_eqb, eqb-true, ltb-true}
 use lib.Dec.{eqb, ltb}
 use lib.ListN.{length, get_or, take, drop, drop_of_length-le, length-drop}
 use lib.Seq.{drop-cons, drop-drop, get_or-drop}
 use Rattle.decimal.proofs.Choices.{choice, tested}
 use Rattle.records.specs.declared.Head.{Head}
-use Rattle.records.specs.declared.Spot.{Spot}
 use Rattle.records.specs.Entries.{Entry, fitting, body_len, entries_from, entries, broken_from, broken, holds, body_in, twice, every, no_head, head_in, head_of, Stands, nowhere, Located}
 
 pub entries_skip : (lengths : ℕ → ℕ) (k : ℕ) (s : List ℕ) → entries_from lengths k s ≡ entries lengths (drop k s)

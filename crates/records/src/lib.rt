@@ -11,14 +11,14 @@ ghost use Rattle.std.specs.Prelude.{◌≡◌};
 ghost use Rattle.records.specs.Entries.{fitting, no_head, head_in, nowhere};
 
 // The entry at a place: length 0 where none begins there.
-#[derive(Drop)]
+#[derive(Clone, Copy)]
 pub struct Head {
     pub name: u8,
     pub len: usize,
 }
 
 // Where a body stands in a record: an empty part at its front where it is not found.
-#[derive(Drop)]
+#[derive(Clone, Copy)]
 pub struct Spot {
     pub found: bool,
     pub start: usize,

@@ -16,7 +16,7 @@ use answer::{Keyword, Pair, Refusal, RulesRow};
 use number::Number;
 use pack_rules::{ClauseEnds, Columns, Keywords, RangeEnds, RuleEnds};
 
-#[derive(Drop)]
+#[derive(Clone, Copy)]
 pub enum Selection {
     Word(Keyword),
     Refused(Refusal),

@@ -3,6 +3,8 @@
 // The entries are read_symbols, find and minimum. specs/Kinds.antt says what a kind byte means,
 // specs/Entries.antt what a record of such kinds holds, by the definitions of crate records. A new
 // kind is a line in the enum, in kind_of, in upper and in their definitions.
+#![tactic(auto)]
+
 ghost use Rattle.std.specs.Prelude.{◌≡◌, ◌<◌, length, get_or};
 ghost use Rattle.records.specs.Entries.{Stands, Located};
 ghost use Rattle.symbols.specs.Kinds.{upper_of, kind_of, name_of, length_of};
@@ -13,7 +15,7 @@ use decimal::{cut, scan};
 use records::{Head, Spot};
 
 // The last is the minimum grouping digits: its body is no text but a number.
-#[derive(Drop)]
+#[derive(Clone, Copy)]
 pub enum Symbol {
     Decimal,
     Group,
@@ -25,13 +27,13 @@ pub enum Symbol {
 }
 
 // What a kind byte means: a symbol and its body's length.
-#[derive(Drop)]
+#[derive(Clone, Copy)]
 pub enum Kind {
     Unknown,
     Known(Symbol, usize),
 }
 
-#[derive(Drop)]
+#[derive(Clone, Copy)]
 pub enum Judged {
     Good,
     Refused(Refusal),

@@ -2,7 +2,7 @@
 use Rattle.pack_rules.specs.Stretch.{table}
 use Rattle.check_laws.specs.Read.{joined_in}
 use mathlib.Core.Path.{refl, sym, ◌∙◌}
-use borrow.Author.Tests.{not_true}
+use borrow.Author.Tests.{not-true}
 use Rattle.check_laws.specs.Fast.{asks_of}
 use Rattle.check_laws.proofs.Placing.{tail_once}
 use borrow.Author.Rules.{rules}
@@ -19,7 +19,7 @@ lesser-requires : tie.Need-lesser-requires
 lesser-requires c κs = search rules
 
 returns : tie.Need-returns
-returns c = let a = c.before.before.before.args in let T = table a.columns.now a.low.now a.high.now in tail_once (joined_in T a.s) a.k a.t c.before.power.result c.lesser.result (asks_of 102 (joined_in T a.s)) c.before.before.before.requires.0 c.before.before.before.requires.3 refl (not_true _ (sym c.before.before.before.requires.4 ∙ c.before.before.if1.true)) c.before.power.ensures c.lesser.ensures
+returns c = let a = c.before.before.before.args in let T = table a.columns.now a.low.now a.high.now in tail_once (joined_in T a.s) a.k a.t c.before.power.result c.lesser.result (asks_of 102 (joined_in T a.s)) c.before.before.before.requires.0 c.before.before.before.requires.3 refl (not-true _ (sym c.before.before.before.requires.4 ∙ c.before.before.if1.true)) c.before.power.ensures c.lesser.ensures
 
 tail-of-requires : tie.Need-tail-of-requires
 tail-of-requires c κs = search rules

@@ -1,5 +1,5 @@
 -- `engines_table::same_parts` compares the pairs, then the numbers.
-use borrow.Author.Tests.{not_true, not-false}
+use borrow.Author.Tests.{not-true, not-false}
 use Rattle.engines_table.proofs.Agree.{first_no, first_yes}
 use borrow.Author.Rules.{rules}
 use Rattle.engines_table.proofs.same_parts.Statement.{statement}
@@ -9,7 +9,7 @@ same-pair-requires : tie.Need-same-pair-requires
 same-pair-requires c κs = search rules
 
 returns : tie.Need-returns
-returns c = first_no c.before.same_pair.result _ _ c.before.same_pair.ensures (not_true _ c.if1.true)
+returns c = first_no c.before.same_pair.result _ _ c.before.same_pair.ensures (not-true _ c.if1.true)
 
 same-number-requires : tie.Need-same-number-requires
 same-number-requires c κs = search rules

@@ -2,7 +2,7 @@
 use native.Mathlib.Omega.{arith}
 use mathlib.Core.Path.{◌≡◌}
 use Prim.Native.Nat.{◌%◌}
-use borrow.Author.Tests.{not_true, not-false}
+use borrow.Author.Tests.{not-true, not-false}
 use Rattle.pack_rules.specs.Stretch.{relation_by}
 use Rattle.check_digits.proofs.Rounds.{ends_any_digit, ends_reached, ends_endless, ends_spared}
 use borrow.Author.Rules.{rules}
@@ -24,7 +24,7 @@ returns-2 c =
     let a = b.before.args in
     let r = relation_by a.low.now a.high.now a.s in
     let e : r.modulus % 10 ≡ 0 = omega (arith, b.if1.false) in
-    (ends_reached r e c.any-reached.result (not_true _ c.before.if2.true) c.any-reached.ensures.0, c.any-reached.ensures.1)
+    (ends_reached r e c.any-reached.result (not-true _ c.before.if2.true) c.any-reached.ensures.0, c.any-reached.ensures.1)
 
 returns-3 : tie.Need-returns-3
 returns-3 c =

@@ -1,7 +1,7 @@
 -- `check_least::search::by_window`: no number, the window's least one, or that of the table from there on.
 use native.Mathlib.Omega.{arith}
 use mathlib.Core.Path.{sym, ◌∙◌}
-use borrow.Author.Tests.{not_true}
+use borrow.Author.Tests.{not-true}
 use Rattle.pack_rules.specs.Stretch.{table}
 use Rattle.check_laws.specs.Read.{joined_in}
 use Rattle.check_laws.proofs.Searched.{room_le}
@@ -20,7 +20,7 @@ asks-remainder-requires : tie.Need-asks-remainder-requires
 asks-remainder-requires c κs = search rules
 
 returns-2 : tie.Need-returns-2
-returns-2 c = let a = c.before.before.before.before.args in let T = table a.columns.now a.low.now a.high.now in let x = joined_in T a.s in let p = c.before.before.before.before.requires in let w = c.before.before.before.in_window.ensures in least_free a.q x p.1.0 (λ j h. p.1.1 j (omega arith) (c.before.asks-remainder.ensures (not_true _ c.if2.true) j h)) w
+returns-2 c = let a = c.before.before.before.before.args in let T = table a.columns.now a.low.now a.high.now in let x = joined_in T a.s in let p = c.before.before.before.before.requires in let w = c.before.before.before.in_window.ensures in least_free a.q x p.1.0 (λ j h. p.1.1 j (omega arith) (c.before.asks-remainder.ensures (not-true _ c.if2.true) j h)) w
 
 passes-at-requires : tie.Need-passes-at-requires
 passes-at-requires c κs = let p = c.before.before.before.before.before.requires in (room_le c.before.before.before.before.before.args.q c.before.before.before.before.in_window.result c.before.before.before.before.before.args.hi p.0.1 c.before.before.before.before.in_window.ensures.high, p.0.3, p.0.4)

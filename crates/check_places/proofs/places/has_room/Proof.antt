@@ -2,7 +2,7 @@
 use mathlib.Core.Path.{ap}
 use Prim.Native.Nat.{ℕ}
 use lib.Dec.{ltb}
-use borrow.Author.Tests.{not_true, not-false}
+use borrow.Author.Tests.{not-true, not-false}
 use Rattle.check_laws.proofs.Placing.{both_no, both_yes}
 use borrow.Author.Rules.{rules}
 use Rattle.check_places.proofs.places.has_room.Statement.{statement}
@@ -12,7 +12,7 @@ is-marked-requires : tie.Need-is-marked-requires
 is-marked-requires c κs = search rules
 
 returns : tie.Need-returns
-returns c = both_no _ _ c.before.is-marked.result c.before.is-marked.ensures (not_true _ c.if1.true)
+returns c = both_no _ _ c.before.is-marked.result c.before.is-marked.ensures (not-true _ c.if1.true)
 
 power-requires : tie.Need-power-requires
 power-requires c κs = search rules

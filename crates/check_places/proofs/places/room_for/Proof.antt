@@ -2,7 +2,7 @@
 use mathlib.Core.Path.{ap}
 use Prim.Native.Nat.{ℕ}
 use lib.Dec.{ltb}
-use borrow.Author.Tests.{not_true, not-false}
+use borrow.Author.Tests.{not-true, not-false}
 use Rattle.check_laws.proofs.Placing.{both_no, both_yes}
 use borrow.Author.Rules.{rules}
 use Rattle.check_places.proofs.places.room_for.Statement.{statement}
@@ -15,7 +15,7 @@ settled-at-requires : tie.Need-settled-at-requires
 settled-at-requires c κs = search rules
 
 returns : tie.Need-returns
-returns c = λ x h. both_no _ _ c.before.settled_at.result (c.before.settled_at.ensures x h) (not_true _ c.if1.true)
+returns c = λ x h. both_no _ _ c.before.settled_at.result (c.before.settled_at.ensures x h) (not-true _ c.if1.true)
 
 sub-power : tie.Need-overflow-sub-power
 sub-power c = search rules

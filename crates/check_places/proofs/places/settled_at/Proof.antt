@@ -1,6 +1,6 @@
 -- `check_places::places::settled_at` is one bit and then the other.
 use mathlib.Core.Path.{sym, ◌∙◌}
-use borrow.Author.Tests.{not_true, not-false}
+use borrow.Author.Tests.{not-true, not-false}
 use Rattle.check_laws.proofs.Profiles.{settled_no, settled_yes}
 use borrow.Author.Rules.{rules}
 use Rattle.check_places.proofs.places.settled_at.Statement.{statement}
@@ -10,7 +10,7 @@ is-marked-requires : tie.Need-is-marked-requires
 is-marked-requires c κs = search rules
 
 returns : tie.Need-returns
-returns c = λ x h. settled_no c.before.before.args.vs c.before.before.args.ws c.before.before.args.v c.before.before.args.w c.before.before.requires.0 c.before.before.requires.1 x h (sym c.before.is-marked.ensures ∙ not_true _ c.if1.true)
+returns c = λ x h. settled_no c.before.before.args.vs c.before.before.args.ws c.before.before.args.v c.before.before.args.w c.before.before.requires.0 c.before.before.requires.1 x h (sym c.before.is-marked.ensures ∙ not-true _ c.if1.true)
 
 is-marked-requires-2 : tie.Need-is-marked-requires-2
 is-marked-requires-2 c κs = search rules

@@ -1,6 +1,6 @@
 -- `check_places::places::whole_code`: there is such a v only where f may be 0.
 use native.Mathlib.Omega.{arith}
-use borrow.Author.Tests.{not_true, not-false}
+use borrow.Author.Tests.{not-true, not-false}
 use Rattle.check_laws.proofs.Placing.{whole_none, whole_some}
 use Rattle.check_laws.proofs.Profiles.{profile_settled}
 use borrow.Author.Rules.{rules}
@@ -11,7 +11,7 @@ allows-zero-requires : tie.Need-allows-zero-requires
 allows-zero-requires c κs = search rules
 
 returns : tie.Need-returns
-returns c = λ x h. whole_none x c.before.allows-zero.result (c.before.allows-zero.ensures x h) (not_true _ c.if1.true)
+returns c = λ x h. whole_none x c.before.allows-zero.result (c.before.allows-zero.ensures x h) (not-true _ c.if1.true)
 
 v-of-requires : tie.Need-v-of-requires
 v-of-requires c κs = search rules

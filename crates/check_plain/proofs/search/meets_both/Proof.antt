@@ -1,5 +1,5 @@
 -- `check_plain::search::meets_both` asks the second rule where the first is met.
-use borrow.Author.Tests.{not_true, not-false}
+use borrow.Author.Tests.{not-true, not-false}
 use Rattle.pack_rules.specs.Stretch.{table}
 use Rattle.check_plain.proofs.Trying.{first_fails, second_says}
 use borrow.Author.Rules.{rules}
@@ -12,7 +12,7 @@ meets-held-requires c κs = search rules
 returns : tie.Need-returns
 returns c =
     let a = c.before.before.args in
-    first_fails (table a.columns.now a.low.now a.high.now) a.relations.now a.clauses.now a.first a.second a.x c.before.meets-held.result c.before.meets-held.ensures (not_true _ c.if1.true)
+    first_fails (table a.columns.now a.low.now a.high.now) a.relations.now a.clauses.now a.first a.second a.x c.before.meets-held.result c.before.meets-held.ensures (not-true _ c.if1.true)
 
 meets-held-requires-2 : tie.Need-meets-held-requires-2
 meets-held-requires-2 c κs = search rules

@@ -1,7 +1,7 @@
 -- `check_runs::clause::clause_run` joins the runs of its level's relations up to the first that says no. Invariant: those so far say yes; the runs kept are right.
 use native.Mathlib.Omega.{arith}
 use Prim.Native.Nat.{◌-◌}
-use borrow.Author.Tests.{not_true, not-false}
+use borrow.Author.Tests.{not-true, not-false}
 use Rattle.pack_rules.specs.Stretch.{table}
 use Rattle.check_runs.specs.Kept.{Kept, Listed}
 use Rattle.check_runs.proofs.Keeping.{Agreed, agreed_start, agreed_more, agreed_all, digit_says_no, one_says_no}
@@ -20,7 +20,7 @@ digit-run-requires : tie.Need-digit-run-requires invariant-loop decreases-loop
 digit-run-requires c κs = search rules
 
 returns : tie.Need-returns invariant-loop decreases-loop
-returns c = let a = c.before.before.before.args in let T = table a.columns.now a.low.now a.high.now in let p = c.before.before.before.requires in let li = p.1.1.0.3 in (digit_says_no T a.s a.q a.level a.list.now a.count a.p li c.before.before.digit-run.result.says c.before.before.digit-run.result.stop c.before.before.digit-run.ensures.0 (not_true _ c.if1.true), (c.before.before.digit-run.ensures.1.0, p.1.1.1))
+returns c = let a = c.before.before.before.args in let T = table a.columns.now a.low.now a.high.now in let p = c.before.before.before.requires in let li = p.1.1.0.3 in (digit_says_no T a.s a.q a.level a.list.now a.count a.p li c.before.before.digit-run.result.says c.before.before.digit-run.result.stop c.before.before.digit-run.ensures.0 (not-true _ c.if1.true), (c.before.before.digit-run.ensures.1.0, p.1.1.1))
 
 loop-holds : tie.Need-loop-init invariant-loop decreases-loop
 loop-holds c = let a = c.before.before.before.args in let T = table a.columns.now a.low.now a.high.now in let p = c.before.before.before.requires in let li = p.1.1.0.3 in let d = c.before.before.digit-run in let t = not-false _ c.if1.false in (agreed_start T a.s a.q a.level a.list.now a.count a.p li d.result.says d.result.stop d.ensures.0 t (d.ensures.1.1 t), p.1.1.1)
@@ -38,7 +38,7 @@ lesser-requires : tie.Need-lesser-requires invariant-loop decreases-loop
 lesser-requires c κs = search rules
 
 returns-2 : tie.Need-returns-2 invariant-loop decreases-loop
-returns-2 c = let a = c.before.before.before.before.before.before.before.before.before.before.before.before.args in let T = table a.columns.now a.low.now a.high.now in let p = c.before.before.before.before.before.before.before.before.before.before.before.before.requires in let li = p.1.1.0.3 in let l = c.before.before.before.before.before.before.before.before.loop in let r = c.before.before.before.run_at in (one_says_no T a.s a.q a.level a.list.now a.count a.p li l.i r.result.stop c.lesser.result r.result.says c.before.before.before.before.before.before.before.loop-test.true p.1.0.self r.ensures.0 (not_true _ c.before.if2.true) c.lesser.ensures, (omega (arith, c.lesser.ensures), r.ensures.1))
+returns-2 c = let a = c.before.before.before.before.before.before.before.before.before.before.before.before.args in let T = table a.columns.now a.low.now a.high.now in let p = c.before.before.before.before.before.before.before.before.before.before.before.before.requires in let li = p.1.1.0.3 in let l = c.before.before.before.before.before.before.before.before.loop in let r = c.before.before.before.run_at in (one_says_no T a.s a.q a.level a.list.now a.count a.p li l.i r.result.stop c.lesser.result r.result.says c.before.before.before.before.before.before.before.loop-test.true p.1.0.self r.ensures.0 (not-true _ c.before.if2.true) c.lesser.ensures, (omega (arith, c.lesser.ensures), r.ensures.1))
 
 lesser-requires-2 : tie.Need-lesser-requires-2 invariant-loop decreases-loop
 lesser-requires-2 c κs = search rules

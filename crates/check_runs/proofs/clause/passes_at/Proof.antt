@@ -3,7 +3,7 @@ use Rattle.pack_rules.specs.Stretch.{single_at, relation_by, table}
 use native.Mathlib.Omega.{arith}
 use Prim.Native.Nat.{◌-◌}
 use mathlib.Core.Path.{◌≡◌, sym, ap, ◌∙◌}
-use borrow.Author.Tests.{not_true, not-false}
+use borrow.Author.Tests.{not-true, not-false}
 use Rattle.pack_rules.specs.Syntax.{Relation}
 use Rattle.pack_rules.specs.declared.Single.{Single}
 use Rattle.meaning.proofs.Meanings.{all_failed, all_next, all_passed}
@@ -28,7 +28,7 @@ returns : tie.Need-returns invariant-loop decreases-loop
 returns c =
     let a = c.before.before.args in
     let T = table a.columns.now a.low.now a.high.now in
-    ends_not T a.s a.q a.x c.before.ends_of.result c.before.ends_of.ensures (not_true _ c.if1.true)
+    ends_not T a.s a.q a.x c.before.ends_of.result c.before.ends_of.ensures (not-true _ c.if1.true)
 
 size-of-requires : tie.Need-size-of-requires invariant-loop decreases-loop
 size-of-requires c κs = search rules
@@ -54,7 +54,7 @@ returns-2 c =
     let T = table a.columns.now a.low.now a.high.now in
     let l = c.before.before.before.before.before.loop in
     let e = c.before.passes_of.ensures ∙ ap (λ (s : Single). passes a.q (relation_by a.low.now a.high.now s) a.x) (c.before.before.single_at.ensures.0 ∙ ap (single_at a.columns.now) c.before.before.before.place_of.ensures.0) in
-    sym (sym l.invariant.0 ∙ all_failed (λ (r : Relation). passes a.q r a.x) (relation_of T a.s) l.k (size_of a.s) (omega (arith, l.invariant.1, c.before.before.before.before.loop-test.true)) (sym e ∙ not_true _ c.if2.true))
+    sym (sym l.invariant.0 ∙ all_failed (λ (r : Relation). passes a.q r a.x) (relation_of T a.s) l.k (size_of a.s) (omega (arith, l.invariant.1, c.before.before.before.before.loop-test.true)) (sym e ∙ not-true _ c.if2.true))
 
 add-k : tie.Need-overflow-add-k invariant-loop decreases-loop
 add-k c = search rules

@@ -6,7 +6,7 @@ use mathlib.Core.Path.{refl, ◌∙◌}
 use mathlib.Core.Bool.{false}
 use Prim.Native.Nat.{◌^◌}
 use native.Mathlib.Omega.{arith}
-use borrow.Author.Tests.{not_true}
+use borrow.Author.Tests.{not-true}
 use Rattle.number.specs.Limits.{max_places}
 use Rattle.check_laws.proofs.Bounding.{bounded_integer, bounded_alone}
 use Rattle.check_laws.proofs.Flooring.{tail_past}
@@ -30,7 +30,7 @@ nowhere-requires : tie.Need-nowhere-requires
 nowhere-requires c κs = search rules
 
 returns : tie.Need-returns
-returns c = let a = c.before.before.before.before.before.args in let T = table a.columns.now a.low.now a.high.now in let x = joined_in T a.s in let d = bounded a.b x in (kind_no_fraction false a.e d _ _ (code_part d false _ refl (c.before.before.opens.ensures (not_true _ c.before.if1.true) d (profile_settled d a.p c.before.before.before.before.before.requires.1 _ _ c.before.before.before.before.v_of.ensures c.before.before.before.w_of.ensures))) (omega arith) c.nowhere.ensures.0, c.nowhere.ensures.1)
+returns c = let a = c.before.before.before.before.before.args in let T = table a.columns.now a.low.now a.high.now in let x = joined_in T a.s in let d = bounded a.b x in (kind_no_fraction false a.e d _ _ (code_part d false _ refl (c.before.before.opens.ensures (not-true _ c.before.if1.true) d (profile_settled d a.p c.before.before.before.before.before.requires.1 _ _ c.before.before.before.before.v_of.ensures c.before.before.before.w_of.ensures))) (omega arith) c.nowhere.ensures.0, c.nowhere.ensures.1)
 
 nowhere-requires-2 : tie.Need-nowhere-requires-2
 nowhere-requires-2 c κs = search rules

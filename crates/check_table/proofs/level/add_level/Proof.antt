@@ -2,7 +2,7 @@
 use native.Mathlib.Omega.{arith}
 use Rattle.pack_rules.specs.Stretch.{table}
 use Rattle.check_laws.specs.Read.{joined_in}
-use borrow.Author.Tests.{not_true}
+use borrow.Author.Tests.{not-true}
 use Rattle.check_table.proofs.Building.{added_free, added_level, added_none, is_full}
 use borrow.Author.Rules.{rules}
 use Rattle.check_table.proofs.level.add_level.Statement.{statement}
@@ -28,7 +28,7 @@ returns c =
     let a = c.before.before.args in
     let p = c.before.before.requires in
     let c' = joined_in (table a.columns.now a.low.now a.high.now) a.s in
-    added_free a.q c' p.1.1.0 p.1.1.1 p.0.4 (p.1.0 (not_true _ c.if1.true))
+    added_free a.q c' p.1.1.0 p.1.1.1 p.0.4 (p.1.0 (not-true _ c.if1.true))
 
 fill-level-requires : tie.Need-fill-level-requires
 fill-level-requires c κs =

@@ -1,0 +1,17 @@
+-- `pattern_affix::count_tokens` counts a mark. The invariant: those counted and those still to come are all, and no more are counted than bytes passed.
+use native.Mathlib.Omega.{arith}
+use Prim.Native.Nat.{◌-◌}
+use Rattle.pattern_affix.proofs.Scans.{marks_again, marks_out}
+use borrow.Author.Rules.{rules}
+use Rattle.pattern_affix.proofs.count_tokens.Goals as goal
+
+pub loop-i-init : goal.loop-i-init
+loop-i-init c = (search rules, search rules, omega arith)
+
+pub overflow_add-n : goal.overflow_add-n
+overflow_add-n c = omega (arith, c.weigh-n.ensures.1, c.loop-i-test.true)
+
+pub returns : goal.returns
+returns c =
+    let l = c.loop-i in
+    (omega (arith, l.invariant.2, marks_out c.args.m c.args.s.now l.i l.quoted l.number c.loop-i-test.false), search rules)
