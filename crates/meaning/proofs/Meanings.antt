@@ -1,14 +1,14 @@
 -- Laws of relations, and of lists of tests read one by one.
-use mathlib.Core.Path.{◌≡◌, refl, sym, ap, ◌∙◌}
+use mathlib.Core.Path.{◌≡◌, refl, sym}
 use mathlib.Core.Bool.{Bool, true, false, not}
-use mathlib.Core.List.{List, [], ◌∷◌}
+use mathlib.Core.List.{List}
 use Prim.Native.Nat.{ℕ, ◌%◌, ◌+◌, ◌-◌, ◌≤◌, ◌<◌}
 use native.Mathlib.Omega.{arith}
 use lib.ListN.{length, get_or-eq_default}
-use Rattle.decimal.specs.Choice.{if◌then◌else◌, both, either}
+use Rattle.decimal.specs.Choice.{if◌then◌else◌}
 use Rattle.decimal.specs.Lists.{all, any}
 use Rattle.number.specs.declared.Number.{Number}
-use Rattle.pack_rules.specs.Syntax.{Range, Relation, Rule}
+use Rattle.pack_rules.specs.Syntax.{Relation}
 use Rattle.pack_rules.specs.Stretch.{stretch, start_at, Table, clause_at}
 use Rattle.pack_rules.proofs.Stretches.{stretch_cons, stretch_nil}
 use Rattle.meaning.specs.Meaning.{in_range, operand_value, is_whole, equals, holds, clause_holds}

@@ -1,6 +1,6 @@
 -- What rules mean of a number: document 01, "The rule pack", from "`=` holds when" on.
-use Rattle.std.specs.Prelude.{Bool, true, false, not, List, [], ◌∷◌, map, ℕ, ◌%◌, leb, eqb}
-use Rattle.decimal.specs.Choice.{if◌then◌else◌, both, either}
+use Rattle.std.specs.Prelude.{Bool, true, not, List, ℕ, ◌%◌, leb, eqb}
+use Rattle.decimal.specs.Choice.{if◌then◌else◌, both}
 use Rattle.decimal.specs.Lists.{all, any}
 use Rattle.number.specs.declared.Number.{Number}
 use Rattle.pack_rules.specs.Syntax.{Range, Relation, Rule}

@@ -1,7 +1,6 @@
 -- `meaning::condition_holds` tests a stretch of clauses. The invariant: what is left decides as the whole does.
 use mathlib.Core.Path.{◌≡◌, sym, ◌∙◌}
 use mathlib.Core.List.{List}
-use Prim.Native.Nat.{◌-◌}
 use Rattle.pack_rules.specs.Syntax.{Relation}
 use Rattle.pack_rules.specs.Stretch.{table, clause_at}
 use Rattle.meaning.specs.Meaning.{clause_holds}

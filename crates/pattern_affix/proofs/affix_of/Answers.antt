@@ -9,6 +9,32 @@ use Rattle.pattern_affix.proofs.affix_of.Goals as goal
 pub loop-i-init : goal.loop-i-init
 loop-i-init c = (search rules, passed_start c.args.s.now)
 
+pub returns-then-ends_affix : goal.returns-then-ends_affix
+returns-then-ends_affix c =
+    let s = c.args.s.now in
+    let l = c.loop-i in
+    let t = c.token_in-t in (
+      passed_end s l.quoted l.number l.i l.invariant.1
+          (affix_end s l.i l.quoted l.number c.loop-i-test.true t.result t.ensures.0 (sym c.ends_affix.ensures ∙ c.if-ends_affix.true)),
+      search rules,
+    )
+
+pub overflow_add-i : goal.overflow_add-i
+overflow_add-i c = omega (arith, c.token_in-t.ensures.1 c.loop-i-test.true)
+
+pub loop-i-smaller : goal.loop-i-smaller
+loop-i-smaller c = omega (arith, c.token_in-t.ensures.1 c.loop-i-test.true)
+
+pub loop-i-preserved : goal.loop-i-preserved
+loop-i-preserved c =
+    let s = c.args.s.now in
+    let l = c.loop-i in
+    let t = c.token_in-t in (
+      omega (arith, t.ensures.1 c.loop-i-test.true),
+      passed_again s l.i l.quoted l.number c.loop-i-test.true t.result t.ensures.0 _ _ c.quoted_after-quoted.ensures c.is_number-number.ensures
+          (sym c.ends_affix.ensures ∙ c.if-ends_affix.false) l.invariant.1,
+    )
+
 pub returns : goal.returns
 returns c =
     let l = c.loop-i in
