@@ -9,7 +9,7 @@ use lib.Seq.{drop-drop}
 use Rattle.pattern_token.specs.declared.Mark.{Mark}
 use Rattle.pattern_token.specs.declared.Token.{Token}
 use Rattle.pattern_affix.specs.declared.Affix.{Affix}
-use Rattle.pattern_token.specs.Items.{token_at, token, quoted_after, is_number, items_from}
+use Rattle.pattern_token.specs.Items.{token_at, quoted_after, is_number, items_from}
 use Rattle.pattern_affix.specs.Affixes.{reserves, any_reserved, ends_affix, longer, affix_from, affix, weight, marks}
 use Rattle.decimal.proofs.Runs.{drop_some}
 use Rattle.pattern_token.proofs.ItemLaws.{token_fits, items_step}

@@ -1,7 +1,6 @@
 -- `pattern_affix::affix_of` answers the affix that a text begins with. The invariant: the bytes passed and the affix still to come are the whole affix.
 use native.Mathlib.Omega.{arith}
 use mathlib.Core.Path.{sym, ◌∙◌}
-use Prim.Native.Nat.{◌-◌}
 use Rattle.pattern_affix.proofs.Scans.{passed_start, passed_end, passed_again, passed_out, affix_end}
 use borrow.Author.Rules.{rules}
 use Rattle.pattern_affix.proofs.affix_of.Goals as goal
@@ -15,23 +14,23 @@ returns-then-ends_affix c =
     let l = c.loop-i in
     let t = c.token_in-t in (
       passed_end s l.quoted l.number l.i l.invariant.1
-          (affix_end s l.i l.quoted l.number c.loop-i-test.true t.result t.ensures.0 (sym c.ends_affix.ensures ∙ c.if-ends_affix.true)),
+          (affix_end s l.i l.quoted l.number c.loop-i-test.true t.result t.ensures.value (sym c.ends_affix.ensures ∙ c.if-ends_affix.true)),
       search rules,
     )
 
 pub overflow_add-i : goal.overflow_add-i
-overflow_add-i c = omega (arith, c.token_in-t.ensures.1 c.loop-i-test.true)
+overflow_add-i c = omega (arith, c.token_in-t.ensures.le_width c.loop-i-test.true)
 
 pub loop-i-smaller : goal.loop-i-smaller
-loop-i-smaller c = omega (arith, c.token_in-t.ensures.1 c.loop-i-test.true)
+loop-i-smaller c = omega (arith, c.token_in-t.ensures.le_width c.loop-i-test.true)
 
 pub loop-i-preserved : goal.loop-i-preserved
 loop-i-preserved c =
     let s = c.args.s.now in
     let l = c.loop-i in
     let t = c.token_in-t in (
-      omega (arith, t.ensures.1 c.loop-i-test.true),
-      passed_again s l.i l.quoted l.number c.loop-i-test.true t.result t.ensures.0 _ _ c.quoted_after-quoted.ensures c.is_number-number.ensures
+      omega (arith, t.ensures.le_width c.loop-i-test.true),
+      passed_again s l.i l.quoted l.number c.loop-i-test.true t.result t.ensures.value _ _ c.quoted_after-quoted.ensures c.is_number-number.ensures
           (sym c.ends_affix.ensures ∙ c.if-ends_affix.false) l.invariant.1,
     )
 

@@ -11,5 +11,5 @@ use Rattle.pattern_affix.proofs.count_marks.Goals as goal
 pub returns-then-run_until-s : goal.returns-then-run_until-s
 returns-then-run_until-s c =
     let a = c.args in
-    let e : until (mark_byte a.m) a.s.now ≡ length a.s.now = rw c.mark_byte_law.ensures at (sym c.run_until.ensures.0 ∙ c.if-run_until-s.true) in
+    let e : until (mark_byte a.m) a.s.now ≡ length a.s.now = rw c.mark_byte.ensures at (sym c.run_until.ensures.0 ∙ c.if-run_until-s.true) in
     (sym (marks_none a.m false false 0 a.s.now e), omega arith)

@@ -1,7 +1,6 @@
 -- `pattern_affix::finds_reserved` answers whether a reserved item stands in a text. The invariant: the answer for the items still to come is the whole answer.
 use native.Mathlib.Omega.{arith}
 use mathlib.Core.Path.{sym, ◌∙◌}
-use Prim.Native.Nat.{◌-◌}
 use Rattle.pattern_affix.proofs.Scans.{reserved_again, reserved_end, reserved_out}
 use Rattle.pattern_affix.proofs.finds_reserved.Goals as goal
 
@@ -10,22 +9,22 @@ returns-then-is_refused c =
     let s = c.args.s.now in
     let l = c.loop-i in
     let t = c.token_in-t in
-    sym (reserved_end s l.i l.quoted l.number c.loop-i-test.true t.result t.ensures.0 (sym c.is_refused.ensures ∙ c.if-is_refused.true))
+    sym (reserved_end s l.i l.quoted l.number c.loop-i-test.true t.result t.ensures.value (sym c.is_refused.ensures ∙ c.if-is_refused.true))
     ∙ l.invariant.1
 
 pub overflow_add-i : goal.overflow_add-i
-overflow_add-i c = omega (arith, c.token_in-t.ensures.1 c.loop-i-test.true)
+overflow_add-i c = omega (arith, c.token_in-t.ensures.le_width c.loop-i-test.true)
 
 pub loop-i-smaller : goal.loop-i-smaller
-loop-i-smaller c = omega (arith, c.token_in-t.ensures.1 c.loop-i-test.true)
+loop-i-smaller c = omega (arith, c.token_in-t.ensures.le_width c.loop-i-test.true)
 
 pub loop-i-preserved : goal.loop-i-preserved
 loop-i-preserved c =
     let s = c.args.s.now in
     let l = c.loop-i in
     let t = c.token_in-t in (
-      omega (arith, t.ensures.1 c.loop-i-test.true),
-      reserved_again s l.i l.quoted l.number c.loop-i-test.true t.result t.ensures.0 _ _ c.quoted_after-quoted.ensures c.is_number-number.ensures _
+      omega (arith, t.ensures.le_width c.loop-i-test.true),
+      reserved_again s l.i l.quoted l.number c.loop-i-test.true t.result t.ensures.value _ _ c.quoted_after-quoted.ensures c.is_number-number.ensures _
           (sym c.is_refused.ensures ∙ c.if-is_refused.false) l.invariant.1,
     )
 

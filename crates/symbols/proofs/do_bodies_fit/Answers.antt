@@ -1,7 +1,6 @@
 -- `symbols::do_bodies_fit` answers whether all bodies fit. The invariant: the answer for the entries still to come is the whole answer.
 use native.Mathlib.Omega.{arith}
 use mathlib.Core.Path.{sym, ap, ◌∙◌}
-use Prim.Native.Nat.{◌-◌}
 use Rattle.records.proofs.Walks.{turn, entries_end, entries_out, every_again, every_fails}
 use Rattle.symbols.specs.Kinds.{length_of}
 use Rattle.symbols.specs.Entries.{entry_fits, bodies_fit}

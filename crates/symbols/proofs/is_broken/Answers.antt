@@ -1,7 +1,6 @@
 -- `symbols::is_broken` answers whether a record breaks off. The invariant: the answer for the bytes still to come is the whole answer.
 use native.Mathlib.Omega.{arith}
 use mathlib.Core.Path.{sym, ◌∙◌}
-use Prim.Native.Nat.{◌-◌}
 use Rattle.records.proofs.Walks.{turn, broken_end, broken_out}
 use Rattle.symbols.specs.Kinds.{length_of}
 use Rattle.symbols.proofs.is_broken.Goals as goal

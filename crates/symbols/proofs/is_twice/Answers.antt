@@ -1,7 +1,6 @@
 -- `symbols::is_twice` answers whether a symbol stands twice. The invariant: the answer for the entries still to come is the whole answer.
 use native.Mathlib.Omega.{arith}
 use mathlib.Core.Path.{sym, ap, ◌∙◌}
-use Prim.Native.Nat.{◌-◌}
 use Rattle.records.proofs.Walks.{turn, entries_end, entries_out, twice_found, twice_again}
 use Rattle.symbols.specs.Kinds.{length_of}
 use Rattle.symbols.specs.Entries.{twice}

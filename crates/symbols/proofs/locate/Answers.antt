@@ -1,7 +1,6 @@
 -- `symbols::locate` finds the first entry of a symbol. The invariant: what is found from here on is what the record holds.
 use native.Mathlib.Omega.{arith}
 use borrow.Author.Tests.{eq-eqb, ne_eqb}
-use Prim.Native.Nat.{◌-◌}
 use Rattle.records.proofs.Walks.{turn, entries_end, entries_out, sought_start, sought_none, sought_found, sought_again}
 use Rattle.symbols.specs.Kinds.{length_of}
 use borrow.Author.Rules.{rules}
