@@ -2,6 +2,8 @@
 //
 // The entry is read_pattern. specs/Reading.antt says what is read, specs/Limits.antt the bounds, each
 // of which is one constant here; crate pattern_grammar, specs/Grammar.antt, what a pattern is.
+#![tactic(auto)]
+
 ghost use Rattle.std.specs.Prelude.{◌≡◌, [], ◌∷◌, ◌+◌, ◌≤◌, ◌<◌, length, drop};
 ghost use Rattle.decimal.specs.Choice.{both, either};
 ghost use Rattle.pattern_reader.specs.Reading.{places, marks_of, half_of, end_of, fits, many_places, step_over, many_marks, same_marks, span, factor_of, pattern_of, judged_marks, judged, own_affixes, with_second, halves, read_pattern, capped_half};

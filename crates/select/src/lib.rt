@@ -3,6 +3,8 @@
 // The entries are select_held and meets_held, for a number and a parsed pack whose arrays are lent: a
 // pack that is kept serves many numbers without a copy of it. specs/Select.antt says which word the
 // rules that a number meets give.
+#![tactic(auto)]
+
 mod mask;
 
 ghost use Rattle.std.specs.Prelude.{◌≡◌, ◌<◌, length, get_or};

@@ -1,15 +1,12 @@
 -- `read_pack` takes token by token, and the end behind the last: the board so far with what is ahead gives what the first board gives with all.
 use native.Mathlib.Omega.{arith}
+use borrow.Author.Rules.{rules}
 use mathlib.Core.Path.{ap, ◌∙◌}
 use Prim.Native.Nat.{◌-◌}
 use Rattle.pack_reader.specs.Board.{Arrays, arrays_of, last_board}
 use Rattle.pack_reader.proofs.Boards.{stands_first, stands_last, token_ends, token_less, takes, within_le}
 use Rattle.pack_reader.proofs.Sims.{told}
 use Rattle.pack_reader.proofs.read_pack.Goals as goal
-
--- the arrays as they are lent
-abbrev first : tie.Start invariant-loop decreases-loop → Arrays
-first b = arrays_of b.args.low.now b.args.high.now b.args.columns.now b.args.relations.now b.args.keyword.now b.args.clauses.now
 
 pub loop-at-init : goal.loop-at-init
 loop-at-init c = stands_first _ _ _ _ _ c.start-w.ensures c.skip_white-at.ensures
@@ -33,7 +30,7 @@ loop-at-preserved c =
     let m = c.piece_len-m in
     let t = c.token_at-t in
     let g = c.step_after-g in
-    takes {first = first c} l.invariant t.result.now m.result c.skip_white-at-in-loop-at.result t.ensures m.ensures c.loop-at-test.true c.skip_white-at-in-loop-at.ensures
+    takes {first = arrays_of c.args.low.now c.args.high.now c.args.columns.now c.args.relations.now c.args.keyword.now c.args.clauses.now} l.invariant t.result.now m.result c.skip_white-at-in-loop-at.result t.ensures m.ensures c.loop-at-test.true c.skip_white-at-in-loop-at.ensures
     c.less_one.ensures g.result g.ensures
     c.put_values.ensures
     c.put_values-in-loop-at.ensures
@@ -46,14 +43,14 @@ loop-at-preserved c =
 pub returns : goal.returns
 returns c =
     let l = c.loop-at in
-    let b = first c in
+    let b = arrays_of c.args.low.now c.args.high.now c.args.columns.now c.args.relations.now c.args.keyword.now c.args.clauses.now in
     told b (arrays_of l.low l.high l.columns l.relations l.keyword l.clauses) l.w c.args.text.now
     (record {
-      low = c.sized-arg-2-1.given.0;
-      high = c.sized-arg-4-1.given.0;
-      columns = c.sized-arg-6-1.given.0;
-      relations = c.sized-arg-8-1.given.0;
-      keyword = c.sized-arg-10-1.given.0;
-      clauses = c.sized-arg-12-1.given.0;
+      low = search rules;
+      high = search rules;
+      columns = search rules;
+      relations = search rules;
+      keyword = search rules;
+      clauses = search rules;
     })
     (stands_last {first = b} l.invariant c.loop-at-test.false ∙ ap (last_board b) c.within-s.ensures) c.judge_all.ensures
