@@ -168,7 +168,7 @@ pub fn w_of(p: u64) -> u64
 
 // Whether f may be 0, whether no relation asks n, and whether none asks f.
 pub fn allows_zero(p: u64) -> bool
-    ensures* { λ r. ⌜ ((c : List Relation) → p ≡ profile_of c → r ≡ all (λ (r : Relation). passes (query_t 0) r 0) c) ⌝ }
+    ensures { (c : List Relation) → p ≡ profile_of c → result ≡ all (λ (r : Relation). passes (query_t 0) r 0) c }
 {
     p / ZERO_PLACE % 2 == 1
 }

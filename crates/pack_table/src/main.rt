@@ -1,5 +1,7 @@
 // Reads packs, one a line, and prints for each `ok` and how many rules it has, or `!` and the number
 // and place of its refusal.
+#![tactic(auto)]
+
 ghost use Rattle.std.specs.Prelude.{◌≤◌, length};
 
 use answer::Refusal;

@@ -1,26 +1,23 @@
 -- A record without kind 71 is judged as before, gives the symbols that it gave, and 1 as the minimum grouping digits.
-use mathlib.Core.Path.{◌≡◌, refl, sym, ap, subst, ◌∙◌}
-use mathlib.Core.Bool.{Bool, true, false}
+use mathlib.Core.Path.{◌≡◌, refl, ap}
+use mathlib.Core.Bool.{false}
 use mathlib.Core.List.{List, [], ◌∷◌}
-use Prim.Native.Nat.{ℕ, ◌+◌, ◌*◌}
+use Prim.Native.Nat.{ℕ}
 use native.Mathlib.Omega.{arith}
 use borrow.Author.Tests.{ne_eqb}
-use lib.Dec.{eqb}
-use lib.ListN.{length}
-use Rattle.decimal.specs.Choice.{if◌then◌else◌}
 use Rattle.decimal.proofs.Choices.{tested}
 use Rattle.records.specs.Entries as records
 use Rattle.records.specs.Entries.{Entry}
-use Rattle.records.specs.Spelled.{Among, All, none, more, here, later}
+use Rattle.records.specs.Spelled.{Among, All, more, here, later}
 use Rattle.records.proofs.Told.{holds_told}
 use Rattle.records.proofs.Spellings.{all_among}
 use Rattle.records.proofs.Without.{read_without}
 use Rattle.symbols.specs.declared.Symbol.{Symbol}
 use Rattle.symbols.specs.declared.Symbol.TheVariants.{Decimal, Group, Minus, Plus, Percent, Permille, Minimum}
 use Rattle.symbols.specs.Kinds.{upper_of, longest, kind_of, name_of, length_of}
-use Rattle.symbols.specs.Entries.{entries, broken, holds, entry_fits, bodies_fit, read_symbols, symbol_in, standard_record}
+use Rattle.symbols.specs.Entries.{entries, broken, holds, entry_fits, read_symbols, symbol_in, standard_record}
 use Rattle.symbols_grammar.specs.Record.{IsEntry, Of}
-use Rattle.symbols_grammar.specs.Base.{NoMinimum, base_length, base_entries, base_fits, base_symbols, base_standard, base_symbol, base_minimum}
+use Rattle.symbols_grammar.specs.Base.{NoMinimum, base_entries, base_fits, base_symbols, base_standard, base_symbol, base_minimum}
 use Rattle.symbols_grammar.proofs.Records.{of_told, read_spells}
 
 -- an entry of the minimum's symbol is of kind 71

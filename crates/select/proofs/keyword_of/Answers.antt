@@ -1,5 +1,4 @@
 -- `select::keyword_of` answers its definition, case by case.
-use borrow.Author.Tests.{ne_eqb}
 use Rattle.select.proofs.keyword_of.Goals as goal
 
 pub returns-in-0 : goal.returns-in-0
@@ -16,8 +15,3 @@ returns-in-3 c = simp c.in-3.is
 
 pub returns-in-4 : goal.returns-in-4
 returns-in-4 c = simp c.in-4.is
-
-pub returns-in_default : goal.returns-in_default
-returns-in_default c =
-    let r = c.in_default.rest in
-    simp (ne_eqb _ _ r.0.0.0.0.1, ne_eqb _ _ r.0.0.0.1, ne_eqb _ _ r.0.0.1, ne_eqb _ _ r.0.1, ne_eqb _ _ r.1)

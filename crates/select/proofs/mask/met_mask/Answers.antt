@@ -1,7 +1,7 @@
 -- `select::mask::met_mask` gathers the met rules, a bit each. The invariant: the mask is that of the rules passed.
 use native.Mathlib.Omega.{arith}
 use mathlib.Core.Path.{◌≡◌, refl, ap, ◌∙◌}
-use Prim.Native.Nat.{ℕ, ◌-◌, ◌<◌, ◌^◌, min}
+use Prim.Native.Nat.{ℕ, ◌<◌, ◌^◌, min}
 use Rattle.select.proofs.Masks.{mask_none, mask_more, mask_fits}
 use Rattle.pack_rules.specs.Stretch.{stretch, table}
 use Rattle.select.specs.Select.{mask_of}

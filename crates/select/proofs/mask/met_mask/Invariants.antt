@@ -4,7 +4,6 @@ use Prim.Native.Nat.{◌-◌, ◌≤◌}
 use Rattle.pack_rules.specs.Stretch.{stretch, table}
 use Rattle.select.specs.Select.{mask_of}
 use Rattle.meaning.specs.Places.{met_at}
-use borrow.Author.Rules.{rules}
 use Rattle.select.proofs.mask.met_mask.Given as goal
 
 abbrev pub invariant-loop-j : goal.invariant-loop-j
