@@ -4,6 +4,8 @@
 // The entry is write_text. specs/Layout.antt says which digits are shown and how they are grouped,
 // specs/Text.antt what stands around them, specs/Plain.antt which bytes are copied there. Every
 // function is total; what an area has no room for is counted and not written.
+#![tactic(auto)]
+
 ghost use Rattle.std.specs.Prelude.{◌≡◌, [], ◌-◌, max, min};
 ghost use Rattle.decimal.specs.Choice.{if◌then◌else◌};
 ghost use Rattle.area.specs.Area.{Wrote};

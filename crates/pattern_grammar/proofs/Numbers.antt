@@ -1,7 +1,7 @@
 -- What the reader counts and works out of a number part is what the sides of its point ask for.
 use mathlib.Core.Path.{◌≡◌, refl, sym, ap, ◌∙◌}
 use mathlib.Core.Bool.{Bool, true, false}
-use mathlib.Core.List.{List, [], ◌∷◌, ◌++◌, map, append-nil, map_append}
+use mathlib.Core.List.{List, [], ◌∷◌, ◌++◌, map, append-nil, map-append}
 use Prim.Native.Nat.{ℕ, ◌+◌, ◌*◌, ◌-◌}
 use native.Mathlib.Omega.{arith}
 use borrow.Author.Tests.{eqb-true, eqb-false, ltb-false}
@@ -77,7 +77,7 @@ units_fraction n f p =
     ∙ (ap (units_from k) (sym (append-nil m))
     ∙ (units_figures AllHashes hash k m [] p.marks_are
     ∙ (sym (value_append n (map as_zero d) (map as_zero m))
-    ∙ (ap (value_from n) (sym (map_append as_zero d m)) ∙ ap (λ (l : List ℕ). value_from n (map as_zero l)) (sym p.text))))))
+    ∙ (ap (value_from n) (sym (map-append as_zero d m)) ∙ ap (λ (l : List ℕ). value_from n (map as_zero l)) (sym p.text))))))
   where
     digit : (b : ℕ) (s : List ℕ) → AllDigits (b ∷ s) → (is_figure b ≡ true) × AllDigits s
     digit b s e =
@@ -97,7 +97,7 @@ units_sides (pointed {w} {f}) o p =
     let d = drop_commas w in
     units_whole false 0 w (46 ∷ f) o
     ∙ (units_fraction (value (map as_zero d)) f p
-    ∙ (sym (value_append 0 (map as_zero d) (map as_zero f)) ∙ ap value (sym (map_append as_zero d f))))
+    ∙ (sym (value_append 0 (map as_zero d) (map as_zero f)) ∙ ap value (sym (map-append as_zero d f))))
 
 -- "read the number part with `#` as 0 and commas dropped": the point is passed over
 pub step_is : (n : List ℕ) (p : IsPart n) → step_of n ≡ step_in p

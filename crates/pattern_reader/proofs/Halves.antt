@@ -2,22 +2,19 @@
 use mathlib.Core.Path.{◌≡◌, ap, ap₂, ◌∙◌}
 use mathlib.Core.Bool.{true, false}
 use mathlib.Core.List.{List}
-use Prim.Native.Nat.{ℕ, ◌+◌, ◌-◌, ◌≤◌, ◌<◌, min}
+use Prim.Native.Nat.{ℕ, ◌+◌, min}
 use native.Mathlib.Omega.{arith}
-use native.Mathlib.Numerals.{add-one}
 use borrow.Author.Tests.{eq-eqb, ne_eqb, ltb-false}
-use lib.ListN.{length, get_or, drop, drop_of_length-le}
-use lib.Seq.{drop-cons}
+use lib.ListN.{length, get_or, drop}
 use Rattle.decimal.specs.Choice.{either}
 use Rattle.decimal.proofs.Choices.{tested, not_both, ltb_same}
-use Rattle.pattern_token.specs.Items.{is_place}
 use Rattle.pattern_number.specs.Shape.{step_cap}
 use Rattle.pattern_reader.specs.Limits.{max_step}
 use Rattle.answer.specs.declared.PatternRow.TheVariants.{NotAPattern}
 use Rattle.pattern_reader.specs.declared.Negative.{Negative}
 use Rattle.pattern_reader.specs.declared.Negative.TheVariants.{MinusSymbol}
 use Rattle.pattern_reader.specs.declared.Half.{Half}
-use Rattle.pattern_reader.specs.Reading.{places, step_over, judged, own_affixes, half_of, end_of, refuse, halves, capped_half}
+use Rattle.pattern_reader.specs.Reading.{step_over, judged, own_affixes, half_of, end_of, refuse, halves, capped_half}
 
 -- ---- the step kept at its bound
 

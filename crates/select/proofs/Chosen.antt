@@ -1,24 +1,21 @@
 -- The word is that of the one rule met; with two or more the first two are told.
-use mathlib.Core.Path.{◌≡◌, refl, sym, ap, ◌∙◌, subst}
+use mathlib.Core.Path.{◌≡◌, refl, sym, ap, ◌∙◌}
 use mathlib.Core.Bool.{Bool, true, false}
 use mathlib.Core.List.{List, [], ◌∷◌}
 use mathlib.Core.Logic.{◌⊎◌, ⊎_elim}
-use Prim.Native.Nat.{ℕ, zero, suc, ◌+◌, ◌-◌, ◌≤◌, ◌<◌}
+use Prim.Native.Nat.{ℕ, suc, ◌+◌, ◌≤◌, ◌<◌}
 use native.Mathlib.Omega.{arith}
 use lib.Dec.{eqb, leb}
 use borrow.Author.Tests.{eqb-true, eqb-false, eq-eqb, ne_eqb, leb-true, leb-false}
-use lib.ListN.{length, drop}
-use Rattle.decimal.specs.Choice.{if◌then◌else◌}
-use Rattle.decimal.proofs.Choices.{choice, tested, not_both}
+use Rattle.decimal.proofs.Choices.{choice, tested}
 use Rattle.answer.specs.declared.Keyword.{Keyword}
-use Rattle.answer.specs.declared.Keyword.TheVariants.{Other}
 use Rattle.answer.specs.declared.Refusal.TheVariants.{Rules as OfRules}
 use Rattle.answer.specs.declared.RulesRow.TheVariants.{TwoRulesMet}
 use Rattle.number.specs.declared.Number.{Number}
 use Rattle.number.specs.Alike.{negative}
 use Rattle.pack_rules.specs.Syntax.{Range, Rule}
 use Rattle.meaning.specs.Meaning.{holds, meets}
-use Rattle.select.specs.Select.{met_by, bit, count_met, first_met, second_met, keyword_at, pair_of, chosen, selection}
+use Rattle.select.specs.Select.{met_by, count_met, first_met, second_met, keyword_at, pair_of, chosen, selection}
 use Rattle.select.specs.Words.{MeetsAt, Chosen}
 use Rattle.select.specs.Words.MeetsAt.{here, there}
 use Rattle.select.specs.Words.Chosen.{none, one, two}

@@ -1,16 +1,14 @@
 -- The word chosen from the bits is the word chosen from the met rules.
-use mathlib.Core.Path.{◌≡◌, refl, sym, ap, ◌∙◌, subst}
-use mathlib.Core.Bool.{Bool, true, false}
-use mathlib.Core.List.{List, [], ◌∷◌}
-use Prim.Native.Nat.{ℕ, zero, suc, ◌+◌, ◌-◌, ◌/◌, ◌^◌, ◌≤◌, ◌<◌, min}
+use mathlib.Core.Path.{◌≡◌, refl, sym, ap, ◌∙◌}
+use mathlib.Core.Bool.{Bool}
+use mathlib.Core.List.{List, ◌∷◌}
+use Prim.Native.Nat.{ℕ, zero, suc, ◌+◌, ◌/◌, ◌^◌, ◌≤◌, ◌<◌, min}
 use native.Mathlib.Omega.{arith}
 use native.Mathlib.Nat.{zero-add}
 use borrow.Author.Tests.{eq-eqb, ne_eqb}
 use lib.Count.{ones, count_trailing_zeros}
 use lib.ListN.{length, get_or, drop, length-drop}
-use Rattle.answer.specs.declared.Keyword.{Keyword}
 use Rattle.answer.specs.declared.Keyword.TheVariants.{Other}
-use Rattle.answer.specs.declared.Pair.{Pair}
 use Rattle.answer.specs.declared.Refusal.TheVariants.{Rules as OfRules}
 use Rattle.answer.specs.declared.RulesRow.TheVariants.{TwoRulesMet}
 use Rattle.number.specs.declared.Number.{Number}
@@ -19,9 +17,8 @@ use Rattle.pack_rules.specs.Held.{Pack, keyword_of, held_rules}
 use Rattle.pack_rules.specs.Stretch.{stretch, table_of, rule_at}
 use Rattle.pack_rules.proofs.Stretches.{Sized, length_stretch, held_rules_law}
 use Rattle.meaning.specs.Meaning.{meets}
-use Rattle.select.specs.Select.{met_by, mask_of, count_met, first_met, second_met, keyword_at, pair_of, chosen, selection}
+use Rattle.select.specs.Select.{met_by, mask_of, count_met, first_met, second_met, keyword_at, pair_of, selection}
 use Rattle.meaning.specs.Places.{met_at}
-use Rattle.select.specs.declared.Selection.{Selection}
 use Rattle.select.specs.declared.Selection.TheVariants.{Word, Refused}
 use Rattle.select.proofs.Masks.{ones_mask, trailing_mask, mask_drop, first_within, count_behind}
 

@@ -3,6 +3,8 @@
 //
 // The input holds, besides rows of our own, the symbol records of Unicode CLDR 41 (Unicode, Inc. License
 // Agreement for Data Files and Software, (c) 1991-2022 Unicode, Inc.).
+#![tactic(auto)]
+
 ghost use Rattle.std.specs.Prelude.{◌≤◌, length};
 
 use decimal::cut;

@@ -1,7 +1,6 @@
 -- `pattern_reader::place_run` counts the number-part bytes at the front. The invariant: those passed and those still to come are the whole run.
 use native.Mathlib.Omega.{arith}
 use mathlib.Core.Path.{sym, ◌∙◌}
-use Prim.Native.Nat.{◌-◌}
 use Rattle.decimal.proofs.Runs.{run_more, run_end, run_out}
 use Rattle.pattern_token.specs.Items.{is_place}
 use borrow.Author.Rules.{rules}
