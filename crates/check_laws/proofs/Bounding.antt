@@ -8,7 +8,6 @@ use native.Mathlib.Nat.{mod-zero}
 use lib.Dec.{leb}
 use borrow.Author.Tests.{le-leb, lt-leb}
 use Rattle.decimal.specs.Choice.{both, either}
-use Rattle.decimal.specs.Lists.{all}
 use Rattle.number.specs.Limits.{max_exponent, max_digits, max_places}
 use Rattle.number.specs.declared.Number.{Number}
 use Rattle.pack_rules.specs.Syntax.{Relation}
@@ -16,7 +15,7 @@ use Rattle.meaning.specs.Meaning.{in_range, clause_holds}
 use Rattle.check_laws.proofs.Seeking.{and_false_left, least_one, seek_least}
 use Rattle.check_laws.specs.Bounded.{from_to, within_places, places_between, bounded}
 use Rattle.check_laws.specs.Check.{lowest, admits, number_at, ranked, ranks, found, least_rank}
-use Rattle.check_laws.specs.Fast.{Query, factor, listed, test, passes, passes_all, query_t, search, of_exponent, settled_e, settled_v, settled_w, settled_f, exponent_of, alone, alone_of, query_f, least_f, tail_of, integer_of, clause_rank}
+use Rattle.check_laws.specs.Fast.{Query, factor, listed, test, passes, passes_all, query_t, search, alone, alone_of, query_f, least_f, tail_of, integer_of, clause_rank}
 use Rattle.check_laws.specs.declared.Bounds.{Bounds}
 use Rattle.check_laws.proofs.FastIs.{lowest_le, least_same, clause_least}
 use Rattle.check_laws.proofs.Searched.{search_least}

@@ -6,20 +6,19 @@ use mathlib.Core.Logic.{⊎_elim}
 use Prim.Native.Nat.{ℕ, ◌-◌, ◌^◌, ◌≤◌, ◌<◌, min, max}
 use native.Mathlib.Omega.{arith}
 use native.Mathlib.Decide.{ℕ_discrete}
-use lib.Dec.{leb, ltb, eqb}
+use lib.Dec.{ltb, eqb}
 use lib.ListN.{get_or, length, set, replicate, get_or-replicate, get_or-eq_default}
 use lib.Seq.{set_out, get_or-set_same, get_or-set_other}
 use borrow.Author.Tests.{lt-ltb, le-ltb, ltb-false}
-use Rattle.decimal.specs.Choice.{if◌then◌else◌, both, either}
+use Rattle.decimal.specs.Choice.{if◌then◌else◌, both}
 use Rattle.decimal.proofs.Choices.{tested, not_both, either_false}
 use Rattle.decimal.specs.Lists.{all}
-use Rattle.number.specs.Limits.{max_exponent, max_digits, max_places}
+use Rattle.number.specs.Limits.{max_digits, max_places}
 use Rattle.pack_rules.specs.Syntax.{Relation}
 use Rattle.pack_rules.specs.Stretch.{Table, relations_in, relation_at, start_at, ranges_from_at, clause_at}
 use Rattle.pack_rules.proofs.Stretches.{stretch_nil}
 use Rattle.check_laws.specs.Seek.{Least}
 use Rattle.check_laws.proofs.Seeking.{split, and_false_left, and_false_right, least_none, least_after}
-use Rattle.check_laws.specs.Check.{lowest}
 use Rattle.check_laws.specs.Fast.{Query, factor, query_i, query_t, alone, alone_of, asks_of, integer_of, passes, ends, passes_all, search}
 use Rattle.check_laws.specs.Read.{joined_in}
 use Rattle.check_laws.specs.Ready.{ready, least_in}
@@ -27,7 +26,6 @@ use Rattle.check_laws.specs.Floors.{NoneBelow, Under, floors_at, Floored, long_i
 use Rattle.check_laws.specs.declared.Floors.{Floors}
 use Rattle.check_laws.specs.declared.Span.{Span}
 use Rattle.check_laws.proofs.Searched.{all_append, search_least, least_search}
-use Rattle.check_laws.proofs.FastIs.{lowest_le}
 use Rattle.check_laws.proofs.Placing.{all_alone}
 
 -- ---- a search that starts at a floor

@@ -3,18 +3,18 @@ use mathlib.Core.Path.{◌≡◌, refl, sym, ap, subst, ◌∙◌}
 use mathlib.Core.Bool.{Bool, true, false, not}
 use mathlib.Core.List.{List, [], ◌∷◌}
 use mathlib.Core.Logic.{⊎_elim}
-use Prim.Native.Nat.{ℕ, ◌+◌, ◌-◌, ◌*◌, ◌/◌, ◌%◌, ◌^◌, ◌≤◌, ◌<◌}
+use Prim.Native.Nat.{ℕ, ◌+◌, ◌-◌, ◌*◌, ◌/◌, ◌%◌, ◌^◌, ◌<◌}
 use native.Mathlib.Omega.{arith}
 use native.Mathlib.Nat.{mod-lt, mod-mod_of_dvd, dvd_of_mod-eq-zero, zero-div}
 use lib.Dec.{eqb, leb}
-use borrow.Author.Tests.{leb-true, le-leb, lt-leb, eqb-true, eqb-false}
+use borrow.Author.Tests.{leb-true, le-leb, eqb-true, eqb-false}
 use Rattle.decimal.specs.Choice.{if◌then◌else◌, both, either}
 use Rattle.decimal.proofs.Choices.{tested, not_both, both_true}
 use Rattle.decimal.specs.Lists.{all, any}
 use Rattle.pack_rules.specs.Syntax.{Range, Relation}
 use Rattle.meaning.specs.Meaning.{in_range}
 use Rattle.select.specs.Select.{bit}
-use Rattle.check_laws.proofs.Seeking.{split, and_true, or_true_left, or_true_right, and_false_left, and_false_right}
+use Rattle.check_laws.proofs.Seeking.{split, and_true, or_true_left, or_true_right}
 use Rattle.check_laws.specs.Fast.{listed, test, asked, factor, passes, passes_all, ends, query_i}
 use Rattle.check_laws.specs.Floors.{Under, raised}
 use Rattle.check_laws.specs.Profile.{marks, reaches, spares, ends_in, last_of, profile_of, whole_digits, part_digits}

@@ -1,15 +1,15 @@
 -- What a clause asks of a number is what it asks of the number's remainders, level by level, and of the number itself.
-use mathlib.Core.Path.{◌≡◌, refl, sym, ap, ap₂, subst, ◌∙◌}
+use mathlib.Core.Path.{◌≡◌, refl, sym, ap, ap₂, ◌∙◌}
 use mathlib.Core.Bool.{Bool, true, false, not}
 use mathlib.Core.List.{List, [], ◌∷◌}
-use mathlib.Core.Logic.{◌⊎◌, ⊎_elim, inl, inr}
+use mathlib.Core.Logic.{⊎_elim}
 use Prim.Native.Nat.{ℕ, zero, suc, ◌+◌, ◌-◌, ◌*◌, ◌/◌, ◌%◌, ◌^◌, ◌≤◌, ◌<◌}
 use native.Mathlib.Omega.{arith}
 use native.Mathlib.Nat.{mod-zero, mod-one, dvd-mul_right, mod-mod_of_dvd, mul-div_cancel, mul-mod_left, mod-eq-zero_of_dvd, dvd_of_mod-eq-zero, dvd-mul_left_of_dvd}
 use lib.Dec.{leb, eqb}
 use lib.Pow.{pow-add}
 use lib.Arith.{mod-mul}
-use borrow.Author.Tests.{eqb-true, eqb-false, eq-eqb, ne_eqb, leb-true, leb-false, not-true}
+use borrow.Author.Tests.{eqb-true, eqb-false, eq-eqb, ne_eqb, not-true}
 use Rattle.decimal.specs.Choice.{if◌then◌else◌, both}
 use Rattle.decimal.proofs.Choices.{choice, tested, not_both, both_true, both_one}
 use Rattle.decimal.specs.Lists.{all}

@@ -1,7 +1,7 @@
 -- The fraction digits' value f is t * 10 ^ (v - w), with w and t their count and value without trailing zeros; and no other w and t are.
 use mathlib.Core.Path.{◌≡◌, sym, ap, subst, ◌∙◌}
 use mathlib.Core.List.{List}
-use mathlib.Core.Logic.{◌⊎◌, ⊎_elim}
+use mathlib.Core.Logic.{⊎_elim}
 use Prim.Native.Nat.{ℕ, suc, ◌+◌, ◌-◌, ◌*◌, ◌%◌, ◌^◌, ◌≤◌, ◌<◌}
 use native.Mathlib.Omega.{arith}
 use native.Mathlib.Nat.{pow-suc, mod-eq_of_lt, mul_assoc, mul-mod_left, mul-le-mul_right, eq_of_mul-eq-mul_right}

@@ -2,7 +2,7 @@
 use mathlib.Core.Path.{◌≡◌, refl, sym, ap, ap₂, subst, ◌∙◌}
 use mathlib.Core.Bool.{Bool, true, false, not}
 use mathlib.Core.List.{List, [], ◌∷◌}
-use mathlib.Core.Logic.{◌⊎◌, ⊎_elim}
+use mathlib.Core.Logic.{⊎_elim}
 use Prim.Native.Nat.{ℕ, zero, suc, ◌+◌, ◌-◌, ◌*◌, ◌%◌, ◌^◌, ◌≤◌, ◌<◌, min}
 use native.Mathlib.Omega.{arith}
 use native.Mathlib.Nat.{mul-le-mul_right}
@@ -10,15 +10,15 @@ use native.Mathlib.Numerals.{add-one}
 use lib.Pow.{pow-add}
 use lib.Dec.{ltb, leb, eqb}
 use borrow.Author.Tests.{le-leb, lt-leb, ltb-true}
-use Rattle.decimal.specs.Choice.{if◌then◌else◌, both, either}
+use Rattle.decimal.specs.Choice.{if◌then◌else◌, both}
 use Rattle.decimal.proofs.Choices.{not_both, either_false, both_true}
 use Rattle.decimal.proofs.Values.{power_mono}
 use Rattle.decimal.specs.Lists.{all}
-use Rattle.number.specs.Limits.{max_exponent, max_places}
+use Rattle.number.specs.Limits.{max_places}
 use Rattle.pack_rules.specs.Syntax.{Relation}
 use Rattle.check_laws.specs.Seek.{Least, seek}
 use Rattle.check_laws.proofs.Seeking.{split, and_true, least_one, seek_least}
-use Rattle.check_laws.specs.Fast.{factor, test, ends, passes_all, alone, alone_of, asks_of, query_t, passes, search, settled_e, settled_f, exponent_of, fractions, whole_code, tail_of, tail_places, tail_code, part_code, fraction_code}
+use Rattle.check_laws.specs.Fast.{factor, test, ends, passes_all, alone, alone_of, asks_of, query_t, passes, search, settled_f, fractions, whole_code, tail_of, tail_places, tail_code, part_code, fraction_code}
 use Rattle.check_laws.proofs.Searched.{search_least}
 
 -- ---- a test in turn

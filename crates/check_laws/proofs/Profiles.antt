@@ -3,17 +3,17 @@ use mathlib.Core.Path.{◌≡◌, refl, sym, ap, ap₂, subst, ◌∙◌, fun_ex
 use mathlib.Core.Bool.{Bool, true, false, not}
 use mathlib.Core.List.{List, [], ◌∷◌, ◌++◌}
 use mathlib.Core.Logic.{◌⊎◌, ⊎_elim, inl, inr}
-use Prim.Native.Nat.{ℕ, zero, suc, ◌+◌, ◌*◌, ◌/◌, ◌%◌, ◌^◌, ◌≤◌, ◌<◌, min, max}
+use Prim.Native.Nat.{ℕ, suc, ◌+◌, ◌*◌, ◌/◌, ◌%◌, ◌^◌, ◌≤◌, ◌<◌, min, max}
 use native.Mathlib.Omega.{arith}
 use native.Mathlib.Nat.{div-one, div-eq_of_lt, div-lt_iff_lt-mul}
 use lib.Bits.{bit_and, and_block}
 use lib.Count.{count_trailing_zeros}
 use lib.Pow.{pow_mono, pow_pos}
-use lib.Dec.{eqb, leb}
+use lib.Dec.{eqb}
 use lib.ListN.{get_or}
 use native.Mathlib.Decide.{ℕ_discrete}
-use borrow.Author.Tests.{eq-eqb, ne_eqb, le-leb}
-use Rattle.decimal.specs.Choice.{if◌then◌else◌, both, either}
+use borrow.Author.Tests.{ne_eqb, le-leb}
+use Rattle.decimal.specs.Choice.{both, either}
 use Rattle.decimal.specs.Lists.{all}
 use Rattle.number.specs.Limits.{max_exponent, max_places}
 use Rattle.pack_rules.specs.Syntax.{Relation}
@@ -21,10 +21,9 @@ use Rattle.pack_rules.specs.Stretch.{stretch, start_at, Table, relations_in, cla
 use Rattle.pack_rules.proofs.Stretches.{stretch_same}
 use Rattle.select.specs.Select.{bit, mask_of}
 use Rattle.select.proofs.Masks.{mask_fits}
-use Rattle.check_laws.specs.Seek.{seek}
 use Rattle.check_laws.proofs.Seeking.{split, and_false_left, and_false_right}
 use Rattle.check_laws.specs.Bounded.{from_to, places_between, bounded}
-use Rattle.check_laws.specs.Fast.{test, listed, asked, passes, factor, query_i, query_t, asks_of, of_exponent, settled_e, settled_v, settled_w, settled_f, exponent_of, fractions, part_code}
+use Rattle.check_laws.specs.Fast.{test, passes, factor, query_i, query_t, asks_of, of_exponent, settled_e, settled_v, settled_w, settled_f, exponent_of, fractions, part_code}
 use Rattle.check_laws.specs.Profile.{values_of, marks, flag_at, ends_in, last_of, packed, profile_of, marked, Settled, Profiled, ProfiledRules}
 use Rattle.check_laws.specs.declared.Bounds.{Bounds}
 use Rattle.check_laws.proofs.Bounding.{places_test}

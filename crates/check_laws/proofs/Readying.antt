@@ -1,17 +1,17 @@
 -- A search that has room, from its test and to it.
-use mathlib.Core.Path.{◌≡◌, refl, sym, ap, ◌∙◌}
+use mathlib.Core.Path.{◌≡◌, refl, sym}
 use mathlib.Core.Bool.{Bool, true, false}
 use Prim.Native.Nat.{ℕ, ◌*◌, ◌-◌, ◌^◌, ◌≤◌, ◌<◌}
 use native.Mathlib.Omega.{arith}
 use native.Mathlib.Nat.{mul-le-mul_right}
 use lib.Dec.{leb, ltb, eqb}
-use borrow.Author.Tests.{ltb-false, le-ltb, lt-ltb, leb-true, le-leb, eqb-true, eqb-false, eq-eqb, ne_eqb}
+use borrow.Author.Tests.{ltb-false, le-ltb, leb-true, le-leb, eqb-true, eqb-false}
 use Rattle.decimal.specs.Choice.{if◌then◌else◌}
 use Rattle.decimal.proofs.Choices.{tested, not_both}
 use Rattle.decimal.proofs.Values.{power_mono}
 use Rattle.number.specs.Limits.{max_digits, max_places}
-use Rattle.pack_rules.specs.Stretch.{Table, relation_at}
-use Rattle.check_laws.specs.Fast.{test, search, alone, query_f}
+use Rattle.pack_rules.specs.Stretch.{Table}
+use Rattle.check_laws.specs.Fast.{search, alone, query_f}
 use Rattle.check_laws.specs.Read.{cap, joined_in}
 use Rattle.check_laws.specs.Ready.{Room, Fit, ready, least_in}
 use Rattle.check_laws.specs.declared.Query.{Query}

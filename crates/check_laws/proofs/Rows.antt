@@ -1,12 +1,12 @@
 -- Rows of document 01's bench card, of the check, from the definition: the number is met by both rules, and every number that is comes no earlier.
-use mathlib.Core.Path.{◌≡◌, refl, sym, ap, subst, ◌∙◌}
+use mathlib.Core.Path.{◌≡◌, refl, ap, ◌∙◌}
 use mathlib.Core.Bool.{Bool, true, false, not}
 use mathlib.Core.List.{List, [], ◌∷◌}
-use mathlib.Core.Logic.{◌⊎◌, ⊎_elim}
-use Prim.Native.Nat.{ℕ, zero, suc, ◌+◌, ◌*◌, ◌/◌, ◌%◌, ◌^◌, ◌≤◌, ◌<◌}
+use mathlib.Core.Logic.{⊎_elim}
+use Prim.Native.Nat.{ℕ, zero, suc, ◌%◌, ◌^◌, ◌≤◌, ◌<◌}
 use native.Mathlib.Omega.{arith}
 use native.Mathlib.Nat.{mod-zero}
-use lib.Dec.{leb, ltb, eqb}
+use lib.Dec.{leb, eqb}
 use borrow.Author.Tests.{lt-ltb, le-leb, leb-true}
 use Rattle.decimal.specs.Choice.{if◌then◌else◌, both, either}
 use Rattle.decimal.proofs.Choices.{not_both, both_true}
@@ -15,9 +15,9 @@ use Rattle.answer.specs.declared.Keyword.TheVariants.{One, Two, Few}
 use Rattle.answer.specs.declared.Witness.{Witness}
 use Rattle.number.specs.declared.Number.{Number}
 use Rattle.pack_rules.specs.Syntax.{Relation, Rule}
-use Rattle.meaning.specs.Meaning.{meets, holds, in_range}
+use Rattle.meaning.specs.Meaning.{meets, in_range}
 use Rattle.check_laws.proofs.Seeking.{split}
-use Rattle.check_laws.specs.Check.{number_at, rank, ranked, ranks, least_rank, clash_of, against, first_pair, check_of}
+use Rattle.check_laws.specs.Check.{number_at, rank, ranked, ranks, clash_of, against, first_pair, check_of}
 use Rattle.check_laws.specs.Claims.{IsAdmitted, Apart, rule_at}
 use Rattle.check_laws.specs.declared.Checked.{Checked}
 use Rattle.check_laws.specs.declared.Checked.TheVariants.{Passes, Clashes}

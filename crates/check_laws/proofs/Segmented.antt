@@ -1,19 +1,18 @@
 -- Laws of lists of segments, and the next number of a level.
 use mathlib.Core.Path.{◌≡◌, refl, sym, ap, subst, ◌∙◌}
 use mathlib.Core.Bool.{Bool, true, false}
-use mathlib.Core.List.{List, [], ◌∷◌, ◌++◌}
+use mathlib.Core.List.{List, [], ◌∷◌}
 use mathlib.Core.Logic.{⊎_elim}
-use Prim.{tt}
 use Prim.Native.Nat.{ℕ, suc, ◌+◌, ◌-◌, ◌*◌, ◌/◌, ◌%◌, ◌≤◌, ◌<◌}
 use native.Mathlib.Omega.{arith}
 use native.Mathlib.Nat.{mod-lt, mod-le, div-add-mod', add-mul-mod_self_right}
 use lib.Arith.{digits_mod}
 use lib.Dec.{leb, ltb}
 use borrow.Author.Tests.{le-leb, lt-leb, leb-true, leb-false, ltb-true, ltb-false}
-use Rattle.decimal.specs.Choice.{if◌then◌else◌, both, either}
-use Rattle.decimal.proofs.Choices.{choice, tested}
+use Rattle.decimal.specs.Choice.{both}
+use Rattle.decimal.proofs.Choices.{choice}
 use Rattle.check_laws.specs.Seek.{Least, Next}
-use Rattle.check_laws.specs.Segments.{Segment, segment, within, inside, Rising, Starts, first, up_to, wrap, climb, Level}
+use Rattle.check_laws.specs.Segments.{Segment, within, inside, Rising, Starts, first, up_to, wrap, climb, Level}
 use Rattle.check_laws.proofs.Seeking.{split, and_false_right, least_none, least_after}
 
 -- a test that says the same

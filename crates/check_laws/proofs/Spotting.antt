@@ -2,8 +2,8 @@
 use mathlib.Core.Path.{◌≡◌, refl, sym, ap, ap₂, subst, ◌∙◌}
 use mathlib.Core.Bool.{Bool, true, false}
 use mathlib.Core.List.{List}
-use mathlib.Core.Logic.{◌⊎◌, ⊎_elim}
-use Prim.Native.Nat.{ℕ, suc, ◌+◌, ◌-◌, ◌*◌, ◌/◌, ◌%◌, ◌^◌, ◌≤◌, ◌<◌, min}
+use mathlib.Core.Logic.{⊎_elim}
+use Prim.Native.Nat.{ℕ, suc, ◌+◌, ◌*◌, ◌/◌, ◌%◌, ◌^◌, ◌≤◌, ◌<◌, min}
 use native.Mathlib.Omega.{arith}
 use native.Mathlib.Nat.{le_of_lt, mul-le-mul_right, div-lt_iff_lt-mul, mod-lt}
 use lib.Arith.{digits_lt}
@@ -17,7 +17,6 @@ use Rattle.pack_rules.specs.Syntax.{Relation}
 use Rattle.check_laws.proofs.Seeking.{split}
 use Rattle.check_laws.specs.Check.{lowest, block, ranks}
 use Rattle.check_laws.specs.Fast.{search, exponent_of, fractions, fraction_code, integer_of, placed, kind_rank, clause_rank}
-use Rattle.check_laws.specs.Ready.{Room}
 use Rattle.check_laws.specs.Spots.{kind_spot, spot_rank, Proper}
 use Rattle.check_laws.proofs.FastIs.{lowest_le}
 

@@ -1,19 +1,19 @@
 -- Where the least number whose f is 0 comes before every one whose f is not.
-use mathlib.Core.Path.{◌≡◌, refl, sym, ap, ap₂, subst, ◌∙◌}
+use mathlib.Core.Path.{◌≡◌, refl, sym, ap, subst, ◌∙◌}
 use mathlib.Core.Bool.{Bool, true, false}
-use mathlib.Core.List.{List, [], ◌∷◌}
+use mathlib.Core.List.{List}
 use mathlib.Core.Logic.{◌⊎◌, ⊎_elim, inl, inr}
-use Prim.Native.Nat.{ℕ, zero, suc, ◌+◌, ◌-◌, ◌*◌, ◌/◌, ◌%◌, ◌^◌, ◌≤◌, ◌<◌, min}
+use Prim.Native.Nat.{ℕ, zero, suc, ◌+◌, ◌-◌, ◌*◌, ◌^◌, ◌≤◌, ◌<◌, min}
 use native.Mathlib.Omega.{arith}
 use native.Mathlib.Nat.{mul-le-mul_right}
 use lib.Dec.{leb, ltb}
-use borrow.Author.Tests.{lt-ltb, le-ltb, ltb-true, leb-true, leb-false}
-use Rattle.decimal.specs.Choice.{if◌then◌else◌, both}
+use borrow.Author.Tests.{lt-ltb, le-ltb, leb-true}
+use Rattle.decimal.specs.Choice.{if◌then◌else◌}
 use Rattle.decimal.proofs.Choices.{tested, not_both, both_true}
 use Rattle.decimal.specs.Lists.{all}
 use Rattle.number.specs.Limits.{max_exponent, max_digits, max_places}
 use Rattle.pack_rules.specs.Syntax.{Relation}
-use Rattle.check_laws.specs.Seek.{seek, Least}
+use Rattle.check_laws.specs.Seek.{seek}
 use Rattle.check_laws.proofs.Seeking.{split, and_true, seek_least}
 use Rattle.check_laws.specs.Check.{lowest, block, ranks}
 use Rattle.check_laws.specs.Fast.{query_i, query_t, passes, ends, passes_all, search, asks_of, settled_v, settled_w, settled_f, exponent_of, fractions, whole_code, tail_of, tail_places, tail_code, part_code, fraction_code, integer_of, placed, kind_rank, clause_rank}

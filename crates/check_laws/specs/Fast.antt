@@ -4,7 +4,7 @@ use Rattle.std.specs.Prelude.{Bool, true, false, not, List, [], ◌∷◌, ◌++
 use Rattle.decimal.specs.Choice.{if◌then◌else◌, both, either}
 use Rattle.decimal.specs.Lists.{all, any}
 use Rattle.number.specs.Limits.{max_exponent, max_digits, max_places}
-use Rattle.pack_rules.specs.Syntax.{Range, Relation, Rule}
+use Rattle.pack_rules.specs.Syntax.{Relation, Rule}
 use Rattle.meaning.specs.Meaning.{in_range}
 use Rattle.check_laws.specs.Seek.{seek}
 use Rattle.check_laws.specs.Check.{lowest, block, ranks, first_pair}

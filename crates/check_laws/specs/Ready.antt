@@ -1,5 +1,5 @@
 -- A search that has room, and the answer where it has none.
-use Rattle.std.specs.Prelude.{Bool, true, false, ℕ, ◌*◌, ◌≤◌, leb, ltb, eqb}
+use Rattle.std.specs.Prelude.{Bool, false, ℕ, ◌*◌, ◌≤◌, leb, ltb, eqb}
 use Rattle.decimal.specs.Choice.{if◌then◌else◌}
 use Rattle.pack_rules.specs.Room.{relation_room}
 use Rattle.pack_rules.specs.Stretch.{Table}

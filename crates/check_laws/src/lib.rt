@@ -5,6 +5,8 @@
 // specs/Levels.antt sorts the relations by the power of ten that they ask.
 // specs/Seek.antt says what the least number of a test is, specs/Segments.antt how the next number of a
 // level is found from its segments. specs/Read.antt says what stretches of a pack's arrays hold.
+#![tactic(auto)]
+
 pub mod limits;
 
 use answer::{Pair, Witness};

@@ -10,7 +10,7 @@ use borrow.Author.Tests.{le-leb, lt-leb, leb-true, lt-ltb, le-ltb}
 use Rattle.decimal.proofs.Choices.{choice}
 use Rattle.pack_rules.specs.Stretch.{stretch}
 use Rattle.pack_rules.proofs.Stretches.{stretch_cons, stretch_nil}
-use Rattle.check_laws.specs.Segments.{Segment, segment, first, up_to, wrap, climb}
+use Rattle.check_laws.specs.Segments.{Segment, first, up_to, wrap, climb}
 use Rattle.check_next.specs.Table.{segment_at, segments_in, Small, climb_in}
 
 module _ (starts ends : List ℕ) where

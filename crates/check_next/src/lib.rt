@@ -4,6 +4,8 @@
 // the relations go by levels, one for each power, and each level has a list of segments: the remainders
 // that it allows, from the first on that passes the levels below (specs/Table.antt). The next number of a
 // level is found from that of the level below it. Crate check_table makes the table. The entry is next.
+#![tactic(auto)]
+
 mod climb;
 
 // How many segments a table has room for.

@@ -2,6 +2,8 @@
 //
 // It answers what crate check_pairs answers, and shares none of its search. It is not made to be quick:
 // for two rules that no number meets it tries some 10^25 numbers. The entry is check.
+#![tactic(auto)]
+
 mod first;
 mod limits;
 mod operands;

@@ -5,6 +5,8 @@
 // (specs/Levels.antt). A pack's arrays are lent one by one. The entries are those of module relation:
 // holds_of for one value, own_run for a run at a level, passes_of for the number searched for, and
 // factor_of and level_of.
+#![tactic(auto)]
+
 pub mod range;
 pub mod relation;
 

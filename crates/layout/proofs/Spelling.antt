@@ -1,6 +1,6 @@
 -- How digits are spelled: ASCII's as the bytes that they are, and none in more than four bytes.
 use mathlib.Core.Path.{◌≡◌, refl, ap}
-use mathlib.Core.Bool.{true, false}
+use mathlib.Core.Bool.{true}
 use mathlib.Core.List.{List, [], ◌∷◌}
 use Prim.Native.Nat.{ℕ, ◌+◌, ◌-◌, ◌≤◌}
 use native.Mathlib.Omega.{arith}
@@ -37,6 +37,6 @@ char_four x =
     choice (λ (t : List ℕ). length t ≤ 4) (ltb x 0x800) (λ m. omega arith) (λ m.
     choice (λ (t : List ℕ). length t ≤ 4) (ltb x 0x10000) (λ n. omega arith) (λ n. omega arith)))
 
-pub spell_four : (zero b : ℕ) → length (spell zero b) ≤ 4
+pub spell_four : (nought b : ℕ) → length (spell nought b) ≤ 4
 unfolding spell
-spell_four zero b = choice (λ (t : List ℕ). length t ≤ 4) (is_digit b) (λ d. char_four (zero + (b - 48))) (λ d. omega arith)
+spell_four nought b = choice (λ (t : List ℕ). length t ≤ 4) (is_digit b) (λ d. char_four (nought + (b - 48))) (λ d. omega arith)

@@ -48,14 +48,14 @@ module _ (symbol : Symbol → List ℕ) (s : List ℕ) (i : ℕ) (q n : Bool) (h
 
 -- one place: a digit, and a group symbol where one stands behind it
 abbrev pub place : ℕ → List ℕ → ℕ → ℕ → List ℕ → ℕ → List ℕ
-place zero g p q d i = spell zero (get_or d i 0) ++ (if mark p q (length d - (i + 1)) then g else [])
+place nought g p q d i = spell nought (get_or d i 0) ++ (if mark p q (length d - (i + 1)) then g else [])
 
-pub grouped_step : (zero : ℕ) (g : List ℕ) (p q : ℕ) (d : List ℕ) (i : ℕ) → i < length d
-    → grouped zero g p q (drop i d) ≡ place zero g p q d i ++ grouped zero g p q (drop (i + 1) d)
-grouped_step zero g p q d i h = rw (drop-cons d i 0 h, length-drop (suc i) d, add-one, append_assoc)
+pub grouped_step : (nought : ℕ) (g : List ℕ) (p q : ℕ) (d : List ℕ) (i : ℕ) → i < length d
+    → grouped nought g p q (drop i d) ≡ place nought g p q d i ++ grouped nought g p q (drop (i + 1) d)
+grouped_step nought g p q d i h = rw (drop-cons d i 0 h, length-drop (suc i) d, add-one, append_assoc)
 
-pub grouped_end : (zero : ℕ) (g : List ℕ) (p q : ℕ) (d : List ℕ) (i : ℕ) → length d ≤ i → grouped zero g p q (drop i d) ≡ []
-grouped_end zero g p q d i h = rw (drop_of_length-le d h)
+pub grouped_end : (nought : ℕ) (g : List ℕ) (p q : ℕ) (d : List ℕ) (i : ℕ) → length d ≤ i → grouped nought g p q (drop i d) ≡ []
+grouped_end nought g p q d i h = rw (drop_of_length-le d h)
 
 -- with no secondary size a symbol stands before the primary group alone
 pub mark_zero : (left primary secondary : ℕ) → secondary ≡ 0 → eqb (left - primary) 0 ≡ eqb ((left - primary) % secondary) 0

@@ -25,11 +25,11 @@ zero_digit = 48
 
 -- The bytes of a digit: of the code point that is as far behind digit zero. A byte that is no digit stands for itself.
 unfoldable pub spell : ℕ → ℕ → List ℕ
-spell zero b = if is_digit b then utf8.spell (zero + (b - 48)) else b ∷ []
+spell nought b = if is_digit b then utf8.spell (nought + (b - 48)) else b ∷ []
 
 abbrev pub spelled : ℕ → List ℕ → List ℕ
-spelled zero [] = []
-spelled zero (b ∷ s) = spell zero b ++ spelled zero s
+spelled nought [] = []
+spelled nought (b ∷ s) = spell nought b ++ spelled nought s
 
 -- A group symbol stands where so many digits are still to come: those of the primary group, or those and whole secondary groups. "No comma, no groups":
 -- then the primary size is 0.
@@ -46,13 +46,13 @@ group_size minimum primary digits = if ltb digits (primary + minimum) then 0 els
 
 -- digits with group symbols among them
 abbrev pub grouped : ℕ → List ℕ → ℕ → ℕ → List ℕ → List ℕ
-grouped zero group primary secondary [] = []
-grouped zero group primary secondary (b ∷ s) =
-    spell zero b ++ ((if mark primary secondary (length s) then group else []) ++ grouped zero group primary secondary s)
+grouped nought group primary secondary [] = []
+grouped nought group primary secondary (b ∷ s) =
+    spell nought b ++ ((if mark primary secondary (length s) then group else []) ++ grouped nought group primary secondary s)
 
 -- "The decimal symbol prints when a fraction digit does."
 abbrev pub pointed : ℕ → List ℕ → List ℕ → List ℕ
-pointed zero point fraction = (if ltb 0 (length fraction) then point else []) ++ grouped zero [] 0 0 fraction
+pointed nought point fraction = (if ltb 0 (length fraction) then point else []) ++ grouped nought [] 0 0 fraction
 
 abbrev pub body : ℕ → List ℕ → List ℕ → ℕ → ℕ → List ℕ → List ℕ → List ℕ
-body zero point group primary secondary whole fraction = grouped zero group primary secondary whole ++ pointed zero point fraction
+body nought point group primary secondary whole fraction = grouped nought group primary secondary whole ++ pointed nought point fraction

@@ -27,7 +27,6 @@ use Rattle.pack_reader.specs.Answer.{read_of, rules_of}
 use Rattle.pack_verdict.specs.declared.Read.{Read}
 use Rattle.pack_verdict.specs.declared.Read.TheVariants.{Rules as Counted, Refused as Bad}
 use Rattle.select.specs.Select.{selection}
-use Rattle.select.specs.declared.Selection.{Selection}
 use Rattle.select.specs.declared.Selection.TheVariants.{Word, Refused}
 use Rattle.select_text.specs.Select.{select_number, select_rules, select_of}
 

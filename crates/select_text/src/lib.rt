@@ -1,4 +1,6 @@
 // Chooses the plural word of a number text by a pack text.
+#![tactic(auto)]
+
 ghost use Rattle.std.specs.Prelude.{◌≡◌, [], ◌∷◌};
 ghost use Rattle.pack_grammar.specs.Reader.{read_pack};
 ghost use Rattle.pack_bare.specs.Bare.{bare_rule};

@@ -1,9 +1,8 @@
 -- `layout::append_items` writes item by item. The invariant: what is left to write, written from the place reached on, gives what the whole gives.
 use native.Mathlib.Omega.{arith}
-use Prim.Native.Nat.{◌-◌}
-use Rattle.area.proofs.Pieces.{start, done}
+use Rattle.area.proofs.Pieces.{start}
 use Rattle.symbols.specs.Entries.{symbol_in, standard_record}
-use Rattle.layout.proofs.Writing.{affix_write, affix_done}
+use Rattle.layout.proofs.Writing.{affix_write}
 use Rattle.layout.proofs.append_items.Goals as goal
 
 pub loop-i-init : goal.loop-i-init

@@ -1,0 +1,10 @@
+-- `check_relation::relation::asked_factor`: f, or another, whose factor is 1.
+use Rattle.check_laws.proofs.Searched.{factor_f}
+use Rattle.check_relation.proofs.Levelling.{factor_one}
+use Rattle.check_relation.proofs.relation.asked_factor.Goals as goal
+
+pub returns-then-o-eq102 : goal.returns-then-o-eq102
+returns-then-o-eq102 c = factor_f c.args.q c.args.o c.if-o-eq102.true
+
+pub returns : goal.returns
+returns c = factor_one c.args.q c.args.o c.requires.0 c.requires.1 c.if-o-eq102.false
