@@ -1,11 +1,10 @@
 -- Trailing zeros taken off one by one.
 use mathlib.Core.Path.{◌≡◌, refl, sym, ap, subst, ◌∙◌}
-use mathlib.Core.Logic.{◌⊎◌, ⊎_elim}
-use Prim.Native.Nat.{ℕ, zero, suc, ◌+◌, ◌-◌, ◌*◌, ◌/◌, ◌%◌, ◌^◌, ◌≤◌, ◌<◌}
+use Prim.Native.Nat.{ℕ, zero, suc, ◌-◌, ◌*◌, ◌/◌, ◌%◌, ◌^◌, ◌≤◌, ◌<◌}
 use native.Mathlib.Omega.{arith}
 use native.Mathlib.Nat.{pow-suc, mul_assoc, mul-one, mul-le-mul_right}
 use Rattle.decimal.proofs.Values.{power_pos}
-use Rattle.number.specs.Admitted.{w_of, t_of, Trimmed}
+use Rattle.number.specs.Admitted.{w_of, t_of}
 use Rattle.number.proofs.Operands.{trimmed, trimmed_only}
 
 -- w digits are left, of value t

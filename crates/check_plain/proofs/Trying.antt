@@ -2,8 +2,8 @@
 use mathlib.Core.Path.{◌≡◌, refl, sym, ap, subst, ◌∙◌}
 use mathlib.Core.Bool.{Bool, true, false}
 use mathlib.Core.List.{List}
-use mathlib.Core.Logic.{◌⊎◌, ⊎_elim}
-use Prim.Native.Nat.{ℕ, suc, ◌+◌, ◌-◌, ◌*◌, ◌/◌, ◌%◌, ◌^◌, ◌≤◌, ◌<◌}
+use mathlib.Core.Logic.{⊎_elim}
+use Prim.Native.Nat.{ℕ, ◌+◌, ◌-◌, ◌/◌, ◌%◌, ◌^◌, ◌≤◌, ◌<◌}
 use native.Mathlib.Omega.{arith}
 use borrow.Author.Tests.{lt-ltb, le-ltb, le-leb, lt-leb}
 use lib.Dec.{leb, ltb}
@@ -17,7 +17,7 @@ use Rattle.pack_rules.specs.Stretch.{Table}
 use Rattle.meaning.specs.Places.{met_at}
 use Rattle.check_laws.specs.Seek.{Least}
 use Rattle.check_laws.proofs.Seeking.{split, seek_least, least_one, least_none, least_after, least_widen, least_start, and_true, and_false_left, and_false_right}
-use Rattle.check_laws.specs.Check.{lowest, admits, number_at, ranked, block, ranks, found, least_rank, clash_of}
+use Rattle.check_laws.specs.Check.{lowest, admits, number_at, ranked, ranks, found, least_rank, clash_of}
 use Rattle.check_laws.specs.Read.{bare_rule}
 use Rattle.check_laws.specs.Spots.{spot_rank, Proper}
 use Rattle.check_laws.proofs.Spotting.{low_le}

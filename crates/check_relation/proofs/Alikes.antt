@@ -1,12 +1,9 @@
 -- Laws of a test that says the same of all numbers from one to before another.
 use mathlib.Core.Path.{◌≡◌, sym, ap, ◌∙◌}
-use mathlib.Core.Bool.{Bool, true, false, not}
-use mathlib.Core.Logic.{⊎_elim}
-use Prim.Native.Nat.{ℕ, ◌<◌, min, max}
+use mathlib.Core.Bool.{Bool, not}
+use Prim.Native.Nat.{ℕ, ◌<◌}
 use native.Mathlib.Omega.{arith}
-use Rattle.decimal.specs.Choice.{both}
 use Rattle.check_laws.specs.Seek.{Alike}
-use Rattle.check_laws.proofs.Seeking.{split, and_true, and_false_left, and_false_right}
 
 -- it says so of the first
 pub alike_at : {P : ℕ → Bool} {x stop : ℕ} {b : Bool} → Alike P x b stop → b ≡ P x

@@ -20,7 +20,7 @@ use Rattle.check_laws.specs.Levels.{level_of, level_in, own_one}
 use Rattle.check_laws.specs.Ready.{Fit}
 use Rattle.check_laws.specs.declared.Query.{Query}
 use Rattle.check_relation.specs.Runs.{tier, far, upwards}
-use Rattle.check_relation.proofs.Alikes.{alike_at, alike_same, alike_all, alike_not}
+use Rattle.check_relation.proofs.Alikes.{alike_at, alike_same, alike_not}
 
 -- ---- a relation's list
 

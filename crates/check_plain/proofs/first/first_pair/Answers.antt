@@ -1,6 +1,5 @@
 -- `check_plain::first::first_pair` stops at the first rule that one behind it clashes with. Invariant: the answer is that of the rules left.
 use native.Mathlib.Omega.{arith}
-use Prim.Native.Nat.{◌-◌}
 use mathlib.Core.Path.{refl, sym, ◌∙◌}
 use Rattle.pack_rules.specs.Stretch.{table}
 use Rattle.check_laws.specs.Check.{clash_of}

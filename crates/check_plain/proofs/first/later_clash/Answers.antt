@@ -1,6 +1,5 @@
 -- `check_plain::first::later_clash` stops at the first that clashes. Invariant: the rules passed do not clash.
 use native.Mathlib.Omega.{arith}
-use Prim.Native.Nat.{◌-◌}
 use mathlib.Core.Path.{refl, ◌∙◌}
 use Rattle.pack_rules.specs.Stretch.{table}
 use Rattle.check_laws.specs.Check.{clash_of}

@@ -1,5 +1,4 @@
 -- `check_plain::search::try_all` tries each e in turn. Invariant: none before passes.
-use Prim.Native.Nat.{◌-◌}
 use Rattle.pack_rules.specs.Stretch.{table}
 use Rattle.check_plain.proofs.Trying.{exponents_start, exponents_more, exponents_found, exponents_none}
 use borrow.Author.Rules.{rules}

@@ -1,6 +1,5 @@
 -- `check_plain::search::try_fractions` tries each f in turn. Invariant: none before passes.
 use native.Mathlib.Omega.{arith}
-use Prim.Native.Nat.{◌-◌}
 use Rattle.pack_rules.specs.Stretch.{table}
 use Rattle.check_plain.specs.Search.{meets_both, rank_at}
 use Rattle.check_plain.proofs.Trying.{none_start, fractions_more, fractions_found, fractions_none}

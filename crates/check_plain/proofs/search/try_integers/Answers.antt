@@ -1,6 +1,5 @@
 -- `check_plain::search::try_integers` tries each i in turn. Invariant: none before passes.
 use native.Mathlib.Omega.{arith}
-use Prim.Native.Nat.{◌-◌}
 use Rattle.pack_rules.specs.Stretch.{table}
 use Rattle.check_plain.specs.Search.{meets_both}
 use Rattle.check_plain.proofs.Trying.{integers_start, integers_more, integers_found, integers_none}
