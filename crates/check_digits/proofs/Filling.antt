@@ -1,12 +1,12 @@
 -- Values as bits, one after the other.
-use mathlib.Core.Path.{◌≡◌, refl, sym, ap, subst, ◌∙◌}
+use mathlib.Core.Path.{◌≡◌, sym, ap, subst, ◌∙◌}
 use mathlib.Core.Bool.{Bool, true, false}
 use Prim.Native.Nat.{ℕ, ◌+◌, ◌*◌, ◌^◌, ◌≤◌, ◌<◌}
 use native.Mathlib.Omega.{arith}
 use native.Mathlib.Nat.{pow-suc}
 use native.Mathlib.Numerals.{add-one}
 use lib.Pow.{pow_mono}
-use Rattle.select.specs.Select.{bit, mask_of}
+use Rattle.select.specs.Select.{bit}
 use Rattle.select.proofs.Masks.{mask_none, mask_more, mask_fits}
 use Rattle.check_laws.specs.Profile.{values_of}
 

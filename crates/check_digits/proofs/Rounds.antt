@@ -8,14 +8,14 @@ use native.Mathlib.Omega.{arith}
 use lib.Bits.{bit_and, bit_or}
 use lib.Dec.{eqb, leb, ltb}
 use borrow.Author.Tests.{eqb-true, eq-eqb, ne_eqb, le-leb, lt-leb, lt-ltb, le-ltb}
-use Rattle.decimal.specs.Choice.{if◌then◌else◌, both, either}
+use Rattle.decimal.specs.Choice.{both}
 use Rattle.decimal.specs.Lists.{all, any}
 use Rattle.decimal.proofs.Choices.{both_true}
 use Rattle.pack_rules.specs.Syntax.{Range, Relation}
 use Rattle.pack_rules.specs.Stretch.{stretch, range_at, ranges_in}
 use Rattle.pack_rules.proofs.Stretches.{stretch_nil, stretch_snoc, stretch_same}
 use Rattle.select.specs.Select.{mask_of}
-use Rattle.check_laws.proofs.Seeking.{split, and_true, or_true_left, or_true_right, and_false_left, and_false_right}
+use Rattle.check_laws.proofs.Seeking.{split, and_true, or_true_left, or_true_right, and_false_right}
 use Rattle.check_laws.specs.Profile.{values_of, round, reaches, spares, ends_in}
 use Rattle.check_laws.proofs.Bits.{bits_and, bits_or}
 use Rattle.check_relation.proofs.Sweeping.{any_snoc, all_snoc}

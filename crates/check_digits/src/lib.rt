@@ -4,5 +4,7 @@
 // Crate check_laws has the definitions (specs/Profile.antt). A pack's arrays are lent one by one. The
 // entries are exponents_of, places_of, zero_of, is_free and between of module values, and digits_of of
 // module digits.
+#![tactic(auto)]
+
 pub mod digits;
 pub mod values;

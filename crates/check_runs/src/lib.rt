@@ -3,6 +3,8 @@
 // A clause is one or two stretches of a pack's relations; crate check_relation has the run of one
 // relation. A pack's arrays are lent one by one. The entries are clause_run and passes_at of module
 // clause, and mark_levels and list_level of module marks.
+#![tactic(auto)]
+
 pub mod clause;
 pub mod marks;
 

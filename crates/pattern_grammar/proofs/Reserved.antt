@@ -1,9 +1,9 @@
 -- A text has a reserved item exactly where a reserved byte stands bare in it; and what the reader's tests of rows 31 and 32 say of a plain pattern.
-use mathlib.Core.Path.{◌≡◌, refl, sym, ap, ◌∙◌}
+use mathlib.Core.Path.{◌≡◌, refl, sym, subst, ap, ◌∙◌}
 use mathlib.Core.Bool.{Bool, true, false, not}
 use mathlib.Core.List.{List, [], ◌∷◌}
 use mathlib.Core.Logic.{◌↔◌, ◌⊎◌, inl, inr, ⊎_elim}
-use Prim.Native.Nat.{ℕ, zero, suc}
+use Prim.Native.Nat.{ℕ, zero, suc, ◌-◌}
 use native.Mathlib.Omega.{arith}
 use borrow.Author.Tests.{eqb-true}
 use lib.Dec.{eqb}
@@ -15,7 +15,9 @@ use Rattle.utf8.specs.Utf8.{is_utf8}
 use Rattle.utf8.specs.Scalar.{IsText}
 use Rattle.utf8.proofs.Scalars.{utf8_complete}
 use Rattle.pattern_token.specs.declared.Item.{Item}
-use Rattle.pattern_token.specs.Items.{starts, apostrophe as twice, permille, currency, is_place, is_reserved, bare_of, is_number, items_from, items}
+use Rattle.pattern_token.specs.declared.Item.TheVariants.{Place}
+use Rattle.pattern_token.specs.declared.Token.{Token}
+use Rattle.pattern_token.specs.Items.{starts, apostrophe as twice, permille, currency, is_place, is_reserved, bare_of, token, is_number, quoted_after, items_from, items}
 use Rattle.pattern_affix.specs.Affixes.{reserves, any_reserved}
 use Rattle.pattern_grammar.specs.Reserved.{Bare, here, apostrophe, quote, byte, Reserved, sign, behind_place}
 use Rattle.pattern_grammar.specs.Verdict.{Plain}
@@ -188,7 +190,10 @@ e_met b t p =
     let x = stop_byte b (rw p) in
     record {
       outer = λ k. stops_low k (b ∷ 69 ∷ t) (rw p);
-      items_there = λ n. rw (plain_token n b (69 ∷ t) x.0 x.1, p);
+      items_there = λ n.
+      let e : bare_of n b ≡ Place b = rw p in
+      subst (λ (u : Token). any_reserved (u.item ∷ items_from (quoted_after false u.item) (is_number u.item) (u.width - 1) (69 ∷ t)) ≡ true)
+      (sym (plain_token n b (69 ∷ t) x.0 x.1 ∙ ap (λ (i : Item). token i 1) e)) refl;
     }
 
 met : {s r : List ℕ} → Bare false s r → Met r → any_reserved (items s) ≡ true

@@ -19,8 +19,8 @@ use Rattle.pattern_reader.specs.declared.PatternReading.{PatternReading}
 use Rattle.pattern_reader.specs.declared.PatternReading.TheVariants.{Is}
 use Rattle.pattern_reader.specs.Reading.{span, read_pattern}
 use Rattle.pattern_grammar.specs.Grammar.{IsSub, IsPattern, one, two}
-use Rattle.pattern_grammar.specs.Meaning.{percent_mark, marks_in, factor_in, ManyMarks, InEither, InFirst, OtherMarks, asked, own_in, pattern_in}
-use Rattle.pattern_grammar.specs.Verdict.{Plain, Past35, Verdict, too_long, not_utf8, reserved, not_a_pattern, many_places_law, large_step, many_marks_law, other_marks, read, Asks}
+use Rattle.pattern_grammar.specs.Meaning.{percent_mark, marks_in, factor_in, ManyMarks, InEither, InFirst, asked, own_in, pattern_in}
+use Rattle.pattern_grammar.specs.Verdict.{Plain, Verdict, too_long, not_utf8, reserved, not_a_pattern, many_places_law, large_step, many_marks_law, other_marks, read, Asks}
 use Rattle.pattern_grammar.specs.Texts.{Parts, Affixes, Multiplies}
 use Rattle.pattern_grammar.proofs.Groups.{groups_found}
 use Rattle.pattern_grammar.proofs.Subpatterns.{drop_two, sub_before, second_text}

@@ -3,6 +3,8 @@
 //
 // write_digits is for crate print, which knows from what it read how long a text can be. specs/Whole.antt
 // says what it answers and what the area holds behind. The text itself is layout's.
+#![tactic(auto)]
+
 ghost use Rattle.std.specs.Prelude.{◌≡◌, ◌≤◌, length};
 ghost use Rattle.area.specs.Area.{most};
 ghost use Rattle.symbols.specs.Entries.{symbol_in, standard_record};

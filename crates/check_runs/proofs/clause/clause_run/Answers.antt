@@ -1,0 +1,13 @@
+-- `check_runs::clause::clause_run` joins the runs of its level's relations up to the first that says no. Invariant: those so far say yes; the runs kept are right.
+use native.Mathlib.Omega.{arith}
+use Prim.Native.Nat.{◌-◌}
+use borrow.Author.Tests.{not-true, not-false}
+use Rattle.pack_rules.specs.Stretch.{table}
+use Rattle.check_runs.proofs.Keeping.{agreed_start, agreed_more, agreed_all, digit_says_no, one_says_no}
+use Rattle.check_runs.proofs.clause.clause_run.Goals as goal
+
+pub loop-i-init : goal.loop-i-init
+loop-i-init c = let a = c.args in let T = table a.columns.now a.low.now a.high.now in let p = c.requires in let li = p.to_le_relation_room.3 in let d = c.digit_run-digit in let t = not-false _ c.if-not-digit.false in (agreed_start T a.s a.q a.level a.list.now a.count a.p li d.result.says d.result.stop d.ensures.alike t (d.ensures.stop_le_far.1 t), p.kept)
+
+pub loop-i-preserved : goal.loop-i-preserved
+loop-i-preserved c = let a = c.args in let T = table a.columns.now a.low.now a.high.now in let p = c.requires in let li = p.to_le_relation_room.3 in let l = c.loop-i in let r = c.run_at-r in (agreed_more T a.s a.q a.level a.list.now a.count a.p li l.i l.end r.result.stop c.lesser-end.result r.result.says l.invariant.0 r.ensures.alike (not-false _ c.if-not-r.false) c.lesser-end.ensures, r.ensures.kept_2)
