@@ -10,7 +10,7 @@ use lib.Dec.{ltb, eqb}
 use borrow.Author.Tests.{ltb-true, ltb-false, lt-ltb, le-ltb, eqb-true, ne_eqb, eqb-false, eq-eqb}
 use lib.ListN.{length, get_or, take, drop, drop_of_length-le, length-append}
 use lib.Seq.{drop-cons, take-append-le, drop-append-le, drop-append-add, take-append-add, take-length, length-take-le}
-use Rattle.decimal.specs.Choice.{if◌then◌else◌}
+use Rattle.std.specs.Prelude.{if◌then◌else◌}
 use Rattle.decimal.proofs.Choices.{tested, choice, not_both, never}
 use Rattle.decimal.specs.Split.{on_first}
 use Rattle.decimal.proofs.Runs.{nil_of_length}

@@ -1,6 +1,5 @@
 -- The input in pieces: what is still to be written.
-use Rattle.std.specs.Prelude.{Bool, List, ◌++◌, ℕ, ◌+◌, drop}
-use Rattle.decimal.specs.Choice.{if◌then◌else◌}
+use Rattle.std.specs.Prelude.{Bool, List, ◌++◌, ℕ, ◌+◌, drop, if◌then◌else◌}
 use Rattle.line.specs.Cuts.{line_length}
 use Rattle.bench_line.specs.Lines.{unread, answer_to, output}
 

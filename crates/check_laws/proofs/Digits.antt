@@ -8,7 +8,8 @@ use native.Mathlib.Nat.{mul-le-mul_right, div-lt_iff_lt-mul, div-add-mod', mod-l
 use lib.Arith.{digits_lt, digits_div, digits_mod}
 use lib.Dec.{ltb}
 use borrow.Author.Tests.{ltb-true, ltb-false}
-use Rattle.decimal.specs.Choice.{if◌then◌else◌, both}
+use Rattle.std.specs.Prelude.{if◌then◌else◌}
+use Rattle.decimal.specs.Choice.{both}
 use Rattle.decimal.proofs.Choices.{choice}
 use Rattle.decimal.proofs.Values.{power_pos}
 use Rattle.number.specs.Limits.{max_digits, max_places}

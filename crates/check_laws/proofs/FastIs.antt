@@ -9,7 +9,8 @@ use lib.Arith.{digits_div, digits_mod}
 use lib.Dec.{eqb, ltb, leb}
 use native.Mathlib.Nat.{le_trans}
 use borrow.Author.Tests.{ltb-true, ltb-false, lt-ltb, le-ltb, le-leb, lt-leb, leb-true, leb-false, eqb-false, ne_eqb}
-use Rattle.decimal.specs.Choice.{if◌then◌else◌, both, either}
+use Rattle.std.specs.Prelude.{if◌then◌else◌}
+use Rattle.decimal.specs.Choice.{both, either}
 use Rattle.decimal.proofs.Choices.{tested, choice}
 use Rattle.decimal.proofs.Values.{power_mono}
 use Rattle.decimal.specs.Lists.{all}

@@ -9,7 +9,8 @@ use native.Mathlib.Nat.{mul-le-mul_right, mul-lt-mul_of_pos_right, zero-mul}
 use lib.Pow.{pow-add}
 use lib.Dec.{eqb, ltb, leb}
 use borrow.Author.Tests.{eqb-true, eqb-false, eq-eqb, ne_eqb, ltb-true, lt-ltb, leb-true, leb-false, not-true}
-use Rattle.decimal.specs.Choice.{if◌then◌else◌, both, either}
+use Rattle.std.specs.Prelude.{if◌then◌else◌}
+use Rattle.decimal.specs.Choice.{both, either}
 use Rattle.decimal.proofs.Choices.{tested, choice, not_both, both_true}
 use Rattle.decimal.proofs.Values.{power_pos, power_mono}
 use Rattle.decimal.specs.Lists.{all}

@@ -9,7 +9,8 @@ use native.Mathlib.Nat.{mul-le-mul_right}
 use lib.Pow.{pow-add}
 use lib.Dec.{ltb, leb, eqb}
 use borrow.Author.Tests.{ne_eqb, eqb-false, leb-true, lt-ltb, ltb-true, not-true}
-use Rattle.decimal.specs.Choice.{if◌then◌else◌, both}
+use Rattle.std.specs.Prelude.{if◌then◌else◌}
+use Rattle.decimal.specs.Choice.{both}
 use Rattle.decimal.proofs.Choices.{tested, not_both, both_true}
 use Rattle.decimal.proofs.Values.{power_pos, power_mono}
 use Rattle.decimal.specs.Lists.{all}

@@ -10,7 +10,8 @@ use native.Mathlib.Numerals.{add-one}
 use lib.Pow.{pow-add}
 use lib.Dec.{ltb, leb, eqb}
 use borrow.Author.Tests.{le-leb, lt-leb, ltb-true}
-use Rattle.decimal.specs.Choice.{if◌then◌else◌, both}
+use Rattle.std.specs.Prelude.{if◌then◌else◌}
+use Rattle.decimal.specs.Choice.{both}
 use Rattle.decimal.proofs.Choices.{not_both, either_false, both_true}
 use Rattle.decimal.proofs.Values.{power_mono}
 use Rattle.decimal.specs.Lists.{all}

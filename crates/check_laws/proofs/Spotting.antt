@@ -9,7 +9,7 @@ use native.Mathlib.Nat.{le_of_lt, mul-le-mul_right, div-lt_iff_lt-mul, mod-lt}
 use lib.Arith.{digits_lt}
 use lib.Dec.{ltb}
 use borrow.Author.Tests.{lt-ltb, le-ltb, le-leb, lt-leb, eq-eqb, ne_eqb, ltb-true, ltb-false}
-use Rattle.decimal.specs.Choice.{if◌then◌else◌}
+use Rattle.std.specs.Prelude.{if◌then◌else◌}
 use Rattle.decimal.proofs.Values.{power_pos}
 use Rattle.answer.specs.declared.Witness.{Witness}
 use Rattle.number.specs.Limits.{max_exponent, max_digits, max_places}

@@ -1,6 +1,6 @@
 -- The pack check, as a search over all admitted numbers in document 01's order. It is never run: specs/Fast.antt has the search that is.
-use Rattle.std.specs.Prelude.{Bool, false, List, [], ◌∷◌, ℕ, suc, ◌+◌, ◌*◌, ◌/◌, ◌%◌, ◌^◌, leb, ltb, eqb}
-use Rattle.decimal.specs.Choice.{if◌then◌else◌, both}
+use Rattle.std.specs.Prelude.{Bool, false, List, [], ◌∷◌, ℕ, suc, ◌+◌, ◌*◌, ◌/◌, ◌%◌, ◌^◌, leb, ltb, eqb, if◌then◌else◌}
+use Rattle.decimal.specs.Choice.{both}
 use Rattle.answer.specs.declared.Witness.{Witness}
 use Rattle.number.specs.Limits.{max_exponent, max_digits, max_places}
 use Rattle.number.specs.Admitted.{number_from}

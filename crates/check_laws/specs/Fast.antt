@@ -1,7 +1,7 @@
 -- The search that is run: the least admitted number that meets a condition. Where e, v and w are given, each relation is settled, or is a test of i, or
 -- one of t, where f = t * 10 ^ (v - w) and t does not end in 0 unless it is 0. So the least i and the least t of a clause are searched for apart.
-use Rattle.std.specs.Prelude.{Bool, true, false, not, List, [], ◌∷◌, ◌++◌, ℕ, zero, suc, ◌+◌, ◌-◌, ◌*◌, ◌/◌, ◌%◌, ◌^◌, min, leb, ltb, eqb}
-use Rattle.decimal.specs.Choice.{if◌then◌else◌, both, either}
+use Rattle.std.specs.Prelude.{Bool, true, false, not, List, [], ◌∷◌, ◌++◌, ℕ, zero, suc, ◌+◌, ◌-◌, ◌*◌, ◌/◌, ◌%◌, ◌^◌, min, leb, ltb, eqb, if◌then◌else◌}
+use Rattle.decimal.specs.Choice.{both, either}
 use Rattle.decimal.specs.Lists.{all, any}
 use Rattle.number.specs.Limits.{max_exponent, max_digits, max_places}
 use Rattle.pack_rules.specs.Syntax.{Relation, Rule}

@@ -1,6 +1,5 @@
 -- Lower bounds for the i and the t of a clause: each joined clause of which it is a part has them too.
-use Rattle.std.specs.Prelude.{◌≡◌, Bool, true, false, List, ℕ, ◌-◌, ◌^◌, ◌<◌, eqb, ltb, get_or}
-use Rattle.decimal.specs.Choice.{if◌then◌else◌}
+use Rattle.std.specs.Prelude.{◌≡◌, Bool, true, false, List, ℕ, ◌-◌, ◌^◌, ◌<◌, eqb, ltb, get_or, if◌then◌else◌}
 use Rattle.number.specs.Limits.{max_digits}
 use Rattle.pack_rules.specs.Room.{clause_room}
 use Rattle.pack_rules.specs.Syntax.{Relation}

@@ -1,6 +1,6 @@
 -- The relations that a search asks, by power of ten. Each asks a remainder of x by 1, 10, .. 10 ^ 6, or x itself; and each of these moduli divides the next.
-use Rattle.std.specs.Prelude.{Bool, true, not, List, ℕ, zero, suc, ◌*◌, ◌%◌, ◌^◌, leb, eqb}
-use Rattle.decimal.specs.Choice.{if◌then◌else◌, both}
+use Rattle.std.specs.Prelude.{Bool, true, not, List, ℕ, zero, suc, ◌*◌, ◌%◌, ◌^◌, leb, eqb, if◌then◌else◌}
+use Rattle.decimal.specs.Choice.{both}
 use Rattle.decimal.specs.Lists.{all}
 use Rattle.pack_rules.specs.Syntax.{Relation}
 use Rattle.check_laws.specs.Fast.{Query, factor, asked, listed}

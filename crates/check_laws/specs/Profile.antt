@@ -1,7 +1,7 @@
 -- A clause's profile: what it leaves of e, of v, of w and of the last digit of i, whether f may be 0, and whether n and f are asked, as bits of one number. Each bit
 -- is a test of all its relations, so that the profile of two clauses joined is the bits that both have.
-use Rattle.std.specs.Prelude.{◌≡◌, Bool, true, false, not, List, ℕ, suc, ◌+◌, ◌-◌, ◌*◌, ◌/◌, ◌%◌, ◌^◌, ◌≤◌, ◌<◌, min, eqb, leb, ltb, get_or}
-use Rattle.decimal.specs.Choice.{if◌then◌else◌, both, either}
+use Rattle.std.specs.Prelude.{◌≡◌, Bool, true, false, not, List, ℕ, suc, ◌+◌, ◌-◌, ◌*◌, ◌/◌, ◌%◌, ◌^◌, ◌≤◌, ◌<◌, min, eqb, leb, ltb, get_or, if◌then◌else◌}
+use Rattle.decimal.specs.Choice.{both, either}
 use Rattle.decimal.specs.Lists.{all, any}
 use Rattle.number.specs.Limits.{max_exponent, max_places}
 use Rattle.pack_rules.specs.Room.{clause_room}

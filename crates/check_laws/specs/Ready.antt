@@ -1,6 +1,5 @@
 -- A search that has room, and the answer where it has none.
-use Rattle.std.specs.Prelude.{Bool, false, ℕ, ◌*◌, ◌≤◌, leb, ltb, eqb}
-use Rattle.decimal.specs.Choice.{if◌then◌else◌}
+use Rattle.std.specs.Prelude.{Bool, false, ℕ, ◌*◌, ◌≤◌, leb, ltb, eqb, if◌then◌else◌}
 use Rattle.pack_rules.specs.Room.{relation_room}
 use Rattle.pack_rules.specs.Stretch.{Table}
 use Rattle.check_laws.specs.Fast.{search}

@@ -1,7 +1,7 @@
 -- Segments of numbers in rising order, and the next number of a level: of a test of remainders by m over tests that repeat sooner.
-use Rattle.std.specs.Prelude.{◌≡◌, Bool, true, false, List, [], ◌∷◌, ℕ, suc, ◌+◌, ◌-◌, ◌%◌, ◌≤◌, ◌<◌, leb, ltb}
+use Rattle.std.specs.Prelude.{◌≡◌, Bool, true, false, List, [], ◌∷◌, ℕ, suc, ◌+◌, ◌-◌, ◌%◌, ◌≤◌, ◌<◌, leb, ltb, if◌then◌else◌}
 use Prim.{Unit}
-use Rattle.decimal.specs.Choice.{if◌then◌else◌, both, either}
+use Rattle.decimal.specs.Choice.{both, either}
 
 -- the numbers from `from` to `to`, both included
 pub record Segment : Type 0 where

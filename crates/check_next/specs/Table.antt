@@ -1,6 +1,5 @@
 -- The table of next numbers in flat arrays: level j has the segments at places at[j] to before at[j + 1]; where there is none, it asks nothing.
-use Rattle.std.specs.Prelude.{◌≡◌, Bool, true, List, ◌⊎◌, ℕ, suc, ◌-◌, ◌^◌, ◌≤◌, ◌<◌, leb, length, get_or}
-use Rattle.decimal.specs.Choice.{if◌then◌else◌}
+use Rattle.std.specs.Prelude.{◌≡◌, Bool, true, List, ◌⊎◌, ℕ, suc, ◌-◌, ◌^◌, ◌≤◌, ◌<◌, leb, length, get_or, if◌then◌else◌}
 use Rattle.pack_rules.specs.Stretch.{stretch}
 use Rattle.check_laws.specs.Segments.{Segment, segment, climb, Level}
 

@@ -1,6 +1,5 @@
 // Floors by a profile.
-ghost use Rattle.std.specs.Prelude.{◌≡◌, ◌^◌, eqb};
-ghost use Rattle.decimal.specs.Choice.{if◌then◌else◌};
+ghost use Rattle.std.specs.Prelude.{◌≡◌, ◌^◌, eqb, if◌then◌else◌};
 ghost use Rattle.number.specs.Limits.{max_digits};
 ghost use Rattle.check_laws.specs.Floors.{raised};
 

@@ -1,11 +1,10 @@
 -- The profile of a stretch of relations, one after the other.
-use mathlib.Core.Path.{◌≡◌, refl, sym, ap, ap₂, ◌∙◌}
-use mathlib.Core.List.{List, [], ◌∷◌, ◌++◌}
+use mathlib.Core.Path.{◌≡◌, sym, ap, ap₂, ◌∙◌}
+use mathlib.Core.List.{[], ◌∷◌, ◌++◌}
 use mathlib.Core.Logic.{◌⊎◌, inl, inr}
-use Prim.Native.Nat.{ℕ, ◌+◌, ◌-◌, ◌≤◌, ◌<◌}
+use Prim.Native.Nat.{ℕ, ◌+◌, ◌-◌, ◌≤◌}
 use native.Mathlib.Omega.{arith}
 use lib.Bits.{bit_and}
-use Rattle.pack_rules.specs.Syntax.{Relation}
 use Rattle.pack_rules.specs.Stretch.{Table, stretch, relation_at, relations_in}
 use Rattle.pack_rules.proofs.Stretches.{stretch_nil, stretch_snoc}
 use Rattle.check_laws.specs.Profile.{packed, profile_of}

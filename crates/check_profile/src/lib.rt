@@ -6,6 +6,8 @@
 // check_digits the bits of one relation. The entries are clause_profile and within, which make a profile,
 // and exponent_of, v_of, w_of, allows_zero, spares_n, spares_f, whole_digits and part_digits, which read
 // one.
+#![tactic(auto)]
+
 ghost use Rattle.std.specs.Prelude.{◌≡◌, not, List, [], ◌∷◌, ◌/◌, ◌%◌, ◌≤◌, ◌<◌};
 ghost use Rattle.decimal.specs.Lists.{all};
 ghost use Rattle.pack_rules.specs.Room.{range_room, relation_room};

@@ -1,6 +1,5 @@
 -- Runs of ranges and of tests, and the level that is told of a relation.
-use Rattle.std.specs.Prelude.{ℕ, ◌+◌, ◌-◌, ◌/◌, min, ltb, eqb}
-use Rattle.decimal.specs.Choice.{if◌then◌else◌}
+use Rattle.std.specs.Prelude.{ℕ, ◌+◌, ◌-◌, ◌/◌, min, ltb, eqb, if◌then◌else◌}
 use Rattle.pack_rules.specs.Syntax.{Relation}
 use Rattle.check_laws.specs.Fast.{asked}
 use Rattle.check_laws.specs.Levels.{level_in}

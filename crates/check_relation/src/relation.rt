@@ -1,7 +1,6 @@
 // A relation, its numbers taken out of the pack's arrays: what it says of a value, or of the number searched for
 // at a level, and how far it says so.
-ghost use Rattle.std.specs.Prelude.{◌≡◌, not, ◌+◌, ◌-◌, ◌*◌, ◌/◌, ◌%◌, ◌≤◌, ◌<◌};
-ghost use Rattle.decimal.specs.Choice.{if◌then◌else◌};
+ghost use Rattle.std.specs.Prelude.{◌≡◌, not, ◌+◌, ◌-◌, ◌*◌, ◌/◌, ◌%◌, ◌≤◌, ◌<◌, if◌then◌else◌};
 ghost use Rattle.pack_rules.specs.Room.{range_room};
 ghost use Rattle.pack_rules.specs.Stretch.{relation_by};
 ghost use Rattle.check_laws.specs.Seek.{Alike};

@@ -10,7 +10,8 @@ use lib.Dec.{eqb}
 use lib.ListN.{length, get_or, set, length-set}
 use lib.Seq.{get_or-set_same, get_or-set_other}
 use borrow.Author.Tests.{eqb-true, ne_eqb}
-use Rattle.decimal.specs.Choice.{if◌then◌else◌, both}
+use Rattle.std.specs.Prelude.{if◌then◌else◌}
+use Rattle.decimal.specs.Choice.{both}
 use Rattle.decimal.proofs.Choices.{choice, not_both, both_true}
 use Rattle.pack_rules.specs.Syntax.{Relation}
 use Rattle.pack_rules.specs.Stretch.{Table}

@@ -1,6 +1,5 @@
 // The levels that a clause asks are marked, and the relations of one level listed.
-ghost use Rattle.std.specs.Prelude.{◌≡◌, true, false, List, ℕ, ◌≤◌, ◌<◌, length, get_or};
-ghost use Rattle.decimal.specs.Choice.{if◌then◌else◌};
+ghost use Rattle.std.specs.Prelude.{◌≡◌, true, false, List, ℕ, ◌≤◌, ◌<◌, length, get_or, if◌then◌else◌};
 ghost use Rattle.pack_rules.specs.Room.{relation_room};
 ghost use Rattle.pack_rules.specs.Stretch.{relation_by, table};
 ghost use Rattle.check_laws.specs.Levels.{own, levelled};

@@ -1,6 +1,5 @@
 // The least admitted number of a clause whose v is within bounds.
-ghost use Rattle.std.specs.Prelude.{◌≡◌, Bool, true, false, List, ℕ, ◌^◌, ◌≤◌, ◌<◌};
-ghost use Rattle.decimal.specs.Choice.{if◌then◌else◌};
+ghost use Rattle.std.specs.Prelude.{◌≡◌, Bool, true, false, List, ℕ, ◌^◌, ◌≤◌, ◌<◌, if◌then◌else◌};
 ghost use Rattle.number.specs.Limits.{max_exponent};
 ghost use Rattle.pack_rules.specs.Room.{relation_room};
 ghost use Rattle.pack_rules.specs.Syntax.{Relation};

@@ -1,6 +1,5 @@
 -- Decimal digits in a text, as bytes 48 to 57, the highest first, and the number that they spell.
-use Rattle.std.specs.Prelude.{Bool, false, List, [], ◌∷◌, ◌++◌, ℕ, zero, suc, ◌+◌, ◌*◌, ◌-◌, ◌/◌, ◌%◌, ◌^◌, min, ltb, eqb, length, get_or, drop}
-use Rattle.decimal.specs.Choice.{if◌then◌else◌}
+use Rattle.std.specs.Prelude.{Bool, false, List, [], ◌∷◌, ◌++◌, ℕ, zero, suc, ◌+◌, ◌*◌, ◌-◌, ◌/◌, ◌%◌, ◌^◌, min, ltb, eqb, length, get_or, drop, if◌then◌else◌}
 use Rattle.decimal.specs.Lists.{run_of, AllOf}
 
 abbrev pub is_digit : ℕ → Bool

@@ -1,6 +1,6 @@
 -- A test along a list: how far it holds from the front on, and whether it holds of every element or of one.
-use Rattle.std.specs.Prelude.{Bool, true, false, ◌≡◌, List, [], ◌∷◌, ℕ, suc, length}
-use Rattle.decimal.specs.Choice.{if◌then◌else◌, both, either}
+use Rattle.std.specs.Prelude.{Bool, true, false, ◌≡◌, List, [], ◌∷◌, ℕ, suc, length, if◌then◌else◌}
+use Rattle.decimal.specs.Choice.{both, either}
 
 -- how many elements a list begins with of which the test holds
 abbrev pub run_of : (ℕ → Bool) → List ℕ → ℕ

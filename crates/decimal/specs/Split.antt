@@ -1,6 +1,5 @@
 -- A text parted at a byte.
-use Rattle.std.specs.Prelude.{List, [], ◌∷◌, ℕ, suc, eqb}
-use Rattle.decimal.specs.Choice.{if◌then◌else◌}
+use Rattle.std.specs.Prelude.{List, [], ◌∷◌, ℕ, suc, eqb, if◌then◌else◌}
 
 -- how many bytes stand before the first b
 abbrev pub until : ℕ → List ℕ → ℕ

@@ -1,6 +1,5 @@
 -- Document 01, "The pattern": which digits of a rounded value are shown, and how they are written.
-use Rattle.std.specs.Prelude.{Bool, false, List, [], ◌∷◌, ◌++◌, ℕ, ◌+◌, ◌-◌, ◌%◌, max, ltb, eqb, length, take, drop}
-use Rattle.decimal.specs.Choice.{if◌then◌else◌}
+use Rattle.std.specs.Prelude.{Bool, false, List, [], ◌∷◌, ◌++◌, ℕ, ◌+◌, ◌-◌, ◌%◌, max, ltb, eqb, length, take, drop, if◌then◌else◌}
 use Rattle.decimal.specs.Digits.{is_digit, shown, trim}
 use Rattle.utf8.specs.Scalar as utf8
 

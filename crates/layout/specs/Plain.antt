@@ -1,6 +1,5 @@
 -- Bytes that stand for themselves wherever they stand: an affix of such bytes prints itself, and no item need be read.
-use Rattle.std.specs.Prelude.{Bool, true, false, List, [], ◌∷◌, ℕ, ltb, eqb}
-use Rattle.decimal.specs.Choice.{if◌then◌else◌}
+use Rattle.std.specs.Prelude.{Bool, true, false, List, [], ◌∷◌, ℕ, ltb, eqb, if◌then◌else◌}
 
 -- a space, `$`, and the bytes from `F` on but for those that `¤` and `‰` begin with
 abbrev pub is_plain : ℕ → Bool

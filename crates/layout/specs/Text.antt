@@ -1,6 +1,5 @@
 -- Document 01, "The pattern", with document 02's minimum grouping digits: the text of a number under a pattern.
-use Rattle.std.specs.Prelude.{Bool, true, false, List, [], ◌∷◌, ◌++◌, ℕ, length, get_or, take, drop}
-use Rattle.decimal.specs.Choice.{if◌then◌else◌}
+use Rattle.std.specs.Prelude.{Bool, true, false, List, [], ◌∷◌, ◌++◌, ℕ, length, get_or, take, drop, if◌then◌else◌}
 use Rattle.decimal.specs.Digits.{figures}
 use Rattle.pattern_token.specs.declared.Mark.{Mark}
 use Rattle.pattern_token.specs.declared.Mark.TheVariants.{Minus as MinusMark, Plus as PlusMark, Percent as PercentMark, Permille as PermilleMark}

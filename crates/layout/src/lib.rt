@@ -6,8 +6,7 @@
 // function is total; what an area has no room for is counted and not written.
 #![tactic(auto)]
 
-ghost use Rattle.std.specs.Prelude.{◌≡◌, [], ◌-◌, max, min};
-ghost use Rattle.decimal.specs.Choice.{if◌then◌else◌};
+ghost use Rattle.std.specs.Prelude.{◌≡◌, [], ◌-◌, max, min, if◌then◌else◌};
 ghost use Rattle.area.specs.Area.{Wrote};
 ghost use Rattle.pattern_token.specs.Items.{items};
 ghost use Rattle.symbols.specs.Entries.{symbol_in, standard_record};

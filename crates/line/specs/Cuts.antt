@@ -1,7 +1,6 @@
 -- Where a line ends, of an input in pieces, of which more may come.
-use Rattle.std.specs.Prelude.{◌≡◌, Bool, List, ℕ, ltb, length, take, drop}
+use Rattle.std.specs.Prelude.{◌≡◌, Bool, List, ℕ, ltb, length, take, drop, if◌then◌else◌}
 use Rattle.std.proofs.lemmas.List.Edits.{sets}
-use Rattle.decimal.specs.Choice.{if◌then◌else◌}
 use Rattle.decimal.specs.Split.{until}
 use Rattle.line.specs.declared.Cut.{Cut}
 use Rattle.line.specs.declared.Cut.TheVariants.{Line, Over, More, Done}

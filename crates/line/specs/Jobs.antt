@@ -1,6 +1,6 @@
 -- Document 01: "`s`, pack, number; `c`, pack; `f`, pattern, number (standard symbols); fields parted by one TAB."
-use Rattle.std.specs.Prelude.{Bool, false, List, [], ℕ, ◌+◌, ltb, eqb, length, get_or, take, drop}
-use Rattle.decimal.specs.Choice.{if◌then◌else◌, both}
+use Rattle.std.specs.Prelude.{Bool, false, List, [], ℕ, ◌+◌, ltb, eqb, length, get_or, take, drop, if◌then◌else◌}
+use Rattle.decimal.specs.Choice.{both}
 use Rattle.decimal.specs.Split.{split, until}
 use Rattle.line.specs.declared.JobCut.{JobCut}
 use Rattle.line.specs.declared.JobCut.TheVariants.{SelectAt, CheckAt, FormatAt, Unknown}

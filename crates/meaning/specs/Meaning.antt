@@ -1,6 +1,6 @@
 -- What rules mean of a number: document 01, "The rule pack", from "`=` holds when" on.
-use Rattle.std.specs.Prelude.{Bool, true, not, List, ℕ, ◌%◌, leb, eqb}
-use Rattle.decimal.specs.Choice.{if◌then◌else◌, both}
+use Rattle.std.specs.Prelude.{Bool, true, not, List, ℕ, ◌%◌, leb, eqb, if◌then◌else◌}
+use Rattle.decimal.specs.Choice.{both}
 use Rattle.decimal.specs.Lists.{all, any}
 use Rattle.number.specs.declared.Number.{Number}
 use Rattle.pack_rules.specs.Syntax.{Range, Relation, Rule}

@@ -1,6 +1,5 @@
 -- Document 01, "The pattern": "Permitted values are the whole multiples of the step." The nearest of them, ties to the even multiple.
-use Rattle.std.specs.Prelude.{◌≡◌, ℕ, ◌+◌, ◌*◌, ◌-◌, ◌/◌, ◌%◌, ◌^◌, ◌≤◌, ltb}
-use Rattle.decimal.specs.Choice.{if◌then◌else◌}
+use Rattle.std.specs.Prelude.{◌≡◌, ℕ, ◌+◌, ◌*◌, ◌-◌, ◌/◌, ◌%◌, ◌^◌, ◌≤◌, ltb, if◌then◌else◌}
 
 -- how far apart two numbers are
 abbrev pub apart : ℕ → ℕ → ℕ

@@ -11,7 +11,8 @@ use lib.Pow.{pow-add}
 use lib.Dec.{ltb, eqb, eqb-suc-zero}
 use borrow.Author.Tests.{le-ltb, ltb-true, ltb-false, eqb-true, eqb-false, ne_eqb}
 use lib.ListN.{length, get_or, take, drop}
-use Rattle.decimal.specs.Choice.{if◌then◌else◌, both}
+use Rattle.std.specs.Prelude.{if◌then◌else◌}
+use Rattle.decimal.specs.Choice.{both}
 use Rattle.decimal.specs.Digits.{is_digit, begins, run, value, lead, trim, figures, AllDigits}
 use Rattle.decimal.proofs.Choices.{choices, tested, not_both, both_true}
 use Rattle.decimal.proofs.Runs.{of_head, of_take}

@@ -1,7 +1,7 @@
 -- Document 01, "The number on the wire": "Text: an optional `-`, one or more digits, optionally `.` and one or more digits, optionally `c` or `e`
 -- and an exponent whose first digit is 1 to 9."
-use Rattle.std.specs.Prelude.{◌≡◌, Bool, true, false, List, [], ◌∷◌, ◌++◌, ℕ, ◌<◌, eqb, length, get_or, drop}
-use Rattle.decimal.specs.Choice.{if◌then◌else◌, both, either}
+use Rattle.std.specs.Prelude.{◌≡◌, Bool, true, false, List, [], ◌∷◌, ◌++◌, ℕ, ◌<◌, eqb, length, get_or, drop, if◌then◌else◌}
+use Rattle.decimal.specs.Choice.{both, either}
 use Rattle.decimal.specs.Digits.{run, AllDigits}
 
 -- the parts of a number's text; a part that is not written is empty

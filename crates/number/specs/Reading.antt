@@ -1,7 +1,7 @@
 -- Reading a number: its operands, and refusals 10 to 15 in the order of document 01's table.
-use Rattle.std.specs.Prelude.{Bool, true, false, List, [], ◌++◌, ℕ, ◌-◌, ltb, eqb, length, get_or, take, drop}
+use Rattle.std.specs.Prelude.{Bool, true, false, List, [], ◌++◌, ℕ, ◌-◌, ltb, eqb, length, get_or, take, drop, if◌then◌else◌}
 use Rattle.std.proofs.Math.Option.{Option, none, some}
-use Rattle.decimal.specs.Choice.{if◌then◌else◌, both}
+use Rattle.decimal.specs.Choice.{both}
 use Rattle.decimal.specs.Digits.{begins, run, value, first, lead, trim}
 use Rattle.answer.specs.declared.NumberRow.{NumberRow}
 use Rattle.answer.specs.declared.NumberRow.TheVariants.{NumberTooLong, NotANumber, ExponentTooLarge, ExponentAfterZero, IntegerTooLong, FractionTooLong}

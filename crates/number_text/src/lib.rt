@@ -4,8 +4,8 @@
 // The entry is read_number.
 #![tactic(auto)]
 
-ghost use Rattle.std.specs.Prelude.{◌≡◌, eqb};
-ghost use Rattle.decimal.specs.Choice.{if◌then◌else◌, both};
+ghost use Rattle.std.specs.Prelude.{◌≡◌, eqb, if◌then◌else◌};
+ghost use Rattle.decimal.specs.Choice.{both};
 ghost use Rattle.decimal.specs.Digits.{AllDigits, run};
 ghost use Rattle.number.specs.Grammar.{is_mark, is_exponent, is_tail};
 ghost use Rattle.number.specs.Reading.{exponent_at, point_at, whole_at, judged, read_number};

@@ -1,6 +1,5 @@
 -- What the stores into a pack's arrays do: a number at a place where a test holds, and the row of a relation.
-use Rattle.std.specs.Prelude.{Bool, List, ℕ, ◌+◌, ◌*◌, min, set}
-use Rattle.decimal.specs.Choice.{if◌then◌else◌}
+use Rattle.std.specs.Prelude.{Bool, List, ℕ, ◌+◌, ◌*◌, min, set, if◌then◌else◌}
 use Rattle.pack_rules.specs.Held.{Row}
 use Rattle.pack_walk.specs.declared.Current.{Current}
 

@@ -1,6 +1,6 @@
 -- What a token closes, and how many of each kind have been read behind it. A relation, a clause and a rule are closed by the token behind them.
-use Rattle.std.specs.Prelude.{Bool, false, ℕ, ◌+◌, ltb}
-use Rattle.decimal.specs.Choice.{if◌then◌else◌, either}
+use Rattle.std.specs.Prelude.{Bool, false, ℕ, ◌+◌, ltb, if◌then◌else◌}
+use Rattle.decimal.specs.Choice.{either}
 use Rattle.pack_token.specs.Spelling.{same}
 use Rattle.pack_grammar.specs.Limits.{max_bytes}
 use Rattle.pack_grammar.specs.Grammar.{Text, semi, and, or}

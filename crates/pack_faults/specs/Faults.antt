@@ -1,6 +1,5 @@
 -- Which of 22 to 26 a token falls under, and the first fault.
-use Rattle.std.specs.Prelude.{Bool, true, false, List, [], ◌∷◌, ℕ, min, eqb, ltb}
-use Rattle.decimal.specs.Choice.{if◌then◌else◌}
+use Rattle.std.specs.Prelude.{Bool, true, false, List, [], ◌∷◌, ℕ, min, eqb, ltb, if◌then◌else◌}
 use Rattle.decimal.specs.Digits.{value}
 use Rattle.answer.specs.Words.{spelling}
 use Rattle.answer.specs.declared.Keyword.TheVariants.{Zero, One, Two, Few, Many, Other}

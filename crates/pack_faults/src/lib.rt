@@ -3,8 +3,7 @@
 // specs/Faults.antt has both as definitions; the functions are those. Every function is total.
 #![tactic(auto)]
 
-ghost use Rattle.std.specs.Prelude.{◌≡◌, take};
-ghost use Rattle.decimal.specs.Choice.{if◌then◌else◌};
+ghost use Rattle.std.specs.Prelude.{◌≡◌, take, if◌then◌else◌};
 ghost use Rattle.pack_token.specs.Spelling.{same};
 ghost use Rattle.pack_grammar.specs.Limits.{is_modulus};
 ghost use Rattle.pack_faults.specs.Faults.{capped, keyword_number, held, name_row, operand_row, value_row, upper_row, mark_after};

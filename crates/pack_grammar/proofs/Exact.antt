@@ -4,7 +4,7 @@ use mathlib.Core.Bool.{Bool, true, false}
 use mathlib.Core.List.{List, [], ◌∷◌, ◌++◌, append_assoc, append-nil}
 use Prim.Native.Nat.{ℕ}
 use native.Mathlib.Omega.{arith}
-use Rattle.decimal.specs.Choice.{if◌then◌else◌}
+use Rattle.std.specs.Prelude.{if◌then◌else◌}
 use Rattle.pack_grammar.specs.Grammar.{Text, semi, RuleTree, PackTree, rules_of, each, of_rule, right_rule, of_pack, right_pack}
 use Rattle.pack_grammar.specs.Grammar.PackTree.{Parted}
 use Rattle.pack_grammar.specs.WellFormed.{texts}

@@ -9,7 +9,8 @@ use lib.Dec.{eqb, ltb}
 use lib.ListN.{length, take, drop, length-drop}
 use lib.Seq.{take-append-le, drop-append-le, take-take}
 use borrow.Author.Tests.{ne_eqb, eqb-false, ltb-false}
-use Rattle.decimal.specs.Choice.{if◌then◌else◌, both}
+use Rattle.std.specs.Prelude.{if◌then◌else◌}
+use Rattle.decimal.specs.Choice.{both}
 use Rattle.decimal.specs.Digits.{is_digit, run}
 use Rattle.decimal.proofs.Choices.{not_both, both_in}
 use Rattle.decimal.specs.Lists.{all}

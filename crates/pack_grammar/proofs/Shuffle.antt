@@ -9,7 +9,8 @@ use lib.Dec.{eqb, ltb}
 use lib.ListN.{length}
 use borrow.Author.Tests.{eqb-true, eqb-false, eq-eqb, ne_eqb, ltb-false, le-ltb}
 use Rattle.decimal.specs.Split.{on_first}
-use Rattle.decimal.specs.Choice.{if◌then◌else◌, both}
+use Rattle.std.specs.Prelude.{if◌then◌else◌}
+use Rattle.decimal.specs.Choice.{both}
 use Rattle.pack_token.specs.Spelling.{same, among}
 use Rattle.pack_grammar.specs.Grammar.{Text, RuleTree, of_rule, right_rule}
 use Rattle.pack_grammar.specs.Steps.{steps, Read, ends}

@@ -8,7 +8,7 @@ use native.Mathlib.Omega.{arith}
 use lib.Dec.{eqb, ltb}
 use lib.ListN.{length, get_or}
 use borrow.Author.Tests.{ltb-true, ltb-false, lt-ltb, le-ltb, eqb-true, eqb-false}
-use Rattle.decimal.specs.Choice.{if◌then◌else◌}
+use Rattle.std.specs.Prelude.{if◌then◌else◌}
 use Rattle.decimal.proofs.Choices.{choice, tested, both_in}
 use Rattle.answer.specs.Table.{pack_row, figures_of}
 use Rattle.answer.specs.declared.PackRow.{PackRow}

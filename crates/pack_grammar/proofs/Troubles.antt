@@ -7,7 +7,8 @@ use native.Mathlib.Omega.{arith}
 use lib.Dec.{ltb, leb}
 use lib.ListN.{length, length-append}
 use borrow.Author.Tests.{ltb-true, ltb-false, le-leb, lt-leb, not-true}
-use Rattle.decimal.specs.Choice.{if◌then◌else◌, both, either}
+use Rattle.std.specs.Prelude.{if◌then◌else◌}
+use Rattle.decimal.specs.Choice.{both, either}
 use Rattle.decimal.specs.Digits.{value}
 use Rattle.decimal.proofs.Choices.{tested}
 use Rattle.decimal.specs.Lists.{all}

@@ -8,7 +8,7 @@ use native.Mathlib.Omega.{arith}
 use lib.Dec.{eqb}
 use lib.ListN.{length, take, drop}
 use Rattle.decimal.specs.Split.{on_first}
-use Rattle.decimal.specs.Choice.{if◌then◌else◌}
+use Rattle.std.specs.Prelude.{if◌then◌else◌}
 use Rattle.pack_token.specs.Spelling.{same}
 use Rattle.pack_grammar.specs.Grammar.{Text, colon, semi, equal, other, RuleTree, PackTree, each, of_rule, right_rule, of_pack, right_pack}
 use Rattle.pack_token.specs.Token.{Token, tokens_for, tokens, piece_len, is_white}

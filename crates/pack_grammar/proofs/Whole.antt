@@ -9,7 +9,8 @@ use lib.ListN.{length, take, drop, length-drop}
 use lib.Seq.{take-append-le, drop-append-le}
 use borrow.Author.Tests.{ne_eqb, eqb-true, eqb-false}
 use Rattle.decimal.specs.Split.{on_first}
-use Rattle.decimal.specs.Choice.{if◌then◌else◌, both}
+use Rattle.std.specs.Prelude.{if◌then◌else◌}
+use Rattle.decimal.specs.Choice.{both}
 use Rattle.decimal.specs.Digits.{is_digit, run}
 use Rattle.decimal.proofs.Choices.{choice}
 use Rattle.decimal.specs.Lists.{all}

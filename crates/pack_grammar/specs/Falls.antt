@@ -1,7 +1,7 @@
 -- Rows 22 to 26 of document 01's table, over a pack's tree: the rows that each of its tokens falls under, and which of them is given.
-use Rattle.std.specs.Prelude.{◌≡◌, Bool, true, not, ℕ, suc, ◌≤◌, ltb, leb, length}
+use Rattle.std.specs.Prelude.{◌≡◌, Bool, true, not, ℕ, suc, ◌≤◌, ltb, leb, length, if◌then◌else◌}
 use mathlib.Core.List.{List, [], ◌∷◌, ◌++◌, map, Memᴰ}
-use Rattle.decimal.specs.Choice.{if◌then◌else◌, either}
+use Rattle.decimal.specs.Choice.{either}
 use Rattle.decimal.specs.Digits.{value}
 use Rattle.pack_rules.specs.Syntax.{Rule}
 use Rattle.pack_token.specs.Spelling.{among}

@@ -1,6 +1,6 @@
 -- The pack grammar of document 01, over tokens, from tree to tokens: a well-formed pack is the tokens of some right tree. A token is its bytes.
-use Rattle.std.specs.Prelude.{Bool, not, List, [], ◌∷◌, ◌++◌, ℕ, get_or}
-use Rattle.decimal.specs.Choice.{if◌then◌else◌, both}
+use Rattle.std.specs.Prelude.{Bool, not, List, [], ◌∷◌, ◌++◌, ℕ, get_or, if◌then◌else◌}
+use Rattle.decimal.specs.Choice.{both}
 use Rattle.decimal.specs.Digits.{is_digit}
 use Rattle.decimal.specs.Lists.{all}
 use Rattle.pack_token.specs.Spelling.{same, among}

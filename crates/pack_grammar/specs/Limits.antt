@@ -1,6 +1,5 @@
 -- The bounds of a pack, each stated once.
-use Rattle.std.specs.Prelude.{Bool, true, List, [], ◌∷◌, ℕ, eqb}
-use Rattle.decimal.specs.Choice.{if◌then◌else◌}
+use Rattle.std.specs.Prelude.{Bool, true, List, [], ◌∷◌, ℕ, eqb, if◌then◌else◌}
 use Rattle.answer.specs.Words.{spelling}
 use Rattle.answer.specs.declared.Keyword.TheVariants.{Zero, One, Two, Few, Many, Other}
 

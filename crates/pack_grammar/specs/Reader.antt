@@ -1,6 +1,5 @@
 -- Reading a pack: refusals 20 to 26 of document 01's table, or the rules.
-use Rattle.std.specs.Prelude.{Bool, true, false, List, [], ◌∷◌, map, ℕ, suc, ◌+◌, ltb, eqb, length}
-use Rattle.decimal.specs.Choice.{if◌then◌else◌}
+use Rattle.std.specs.Prelude.{Bool, true, false, List, [], ◌∷◌, map, ℕ, suc, ◌+◌, ltb, eqb, length, if◌then◌else◌}
 use Rattle.decimal.specs.Digits.{value}
 use Rattle.decimal.specs.Split.{split}
 use Rattle.answer.specs.declared.PackRow.{PackRow}

@@ -1,6 +1,5 @@
 -- The rules that trees stand for.
-use Rattle.std.specs.Prelude.{List, [], ◌∷◌, ◌++◌, map, get_or}
-use Rattle.decimal.specs.Choice.{if◌then◌else◌}
+use Rattle.std.specs.Prelude.{List, [], ◌∷◌, ◌++◌, map, get_or, if◌then◌else◌}
 use Rattle.decimal.specs.Digits.{value}
 use Rattle.answer.specs.Words.{spelling}
 use Rattle.answer.specs.declared.Keyword.{Keyword}

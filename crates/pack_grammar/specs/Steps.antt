@@ -1,6 +1,5 @@
 -- Reading the tokens of one segment, one after the other: what has been read, and what may follow.
-use Rattle.std.specs.Prelude.{Bool, true, false, List, [], ◌∷◌, ◌++◌}
-use Rattle.decimal.specs.Choice.{if◌then◌else◌}
+use Rattle.std.specs.Prelude.{Bool, true, false, List, [], ◌∷◌, ◌++◌, if◌then◌else◌}
 use Rattle.pack_token.specs.Spelling.{same}
 use Rattle.pack_grammar.specs.Grammar.{Text, colon, comma, percent, equal, and, or, other, is_word, is_number, is_operand, RangeTree, HeadTree, RelationTree, ClauseTree, RuleTree}
 use Rattle.pack_token.specs.Token.{differ, dots}

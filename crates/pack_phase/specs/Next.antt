@@ -1,6 +1,6 @@
 -- What may follow in a pack, without what has been read: the automaton that the code runs, `;` among its tokens.
-use Rattle.std.specs.Prelude.{Bool, ℕ, eqb}
-use Rattle.decimal.specs.Choice.{if◌then◌else◌, either}
+use Rattle.std.specs.Prelude.{Bool, ℕ, eqb, if◌then◌else◌}
+use Rattle.decimal.specs.Choice.{either}
 use Rattle.pack_token.specs.Spelling.{same}
 use Rattle.pack_token.specs.Token.{dots, differ}
 use Rattle.pack_grammar.specs.Grammar.{Text, colon, semi, comma, percent, equal, and, or, is_word, is_number, is_operand}

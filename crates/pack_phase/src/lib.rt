@@ -3,8 +3,7 @@
 // specs/Next.antt has the automaton; proofs/Phases.antt shows that it goes with the grammar's states.
 #![tactic(auto)]
 
-ghost use Rattle.std.specs.Prelude.{◌≡◌, true};
-ghost use Rattle.decimal.specs.Choice.{if◌then◌else◌};
+ghost use Rattle.std.specs.Prelude.{◌≡◌, true, if◌then◌else◌};
 ghost use Rattle.pack_token.specs.Spelling.{same};
 ghost use Rattle.pack_grammar.specs.Grammar.{is_word, is_number, is_operand};
 ghost use Rattle.pack_phase.specs.Next.{after_sign, after_relation, next_phase, phase_number, same_phase};

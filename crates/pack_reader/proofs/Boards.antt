@@ -8,7 +8,7 @@ use lib.Dec.{ltb}
 use lib.ListN.{length, take, drop, drop_of_length-le, length-drop}
 use lib.Seq.{drop-drop}
 use borrow.Author.Tests.{lt-ltb, le-ltb, ltb-true, ltb-false}
-use Rattle.decimal.specs.Choice.{if◌then◌else◌}
+use Rattle.std.specs.Prelude.{if◌then◌else◌}
 use Rattle.decimal.proofs.Choices.{choice, tested}
 use Rattle.pack_token.specs.Token.{white_len, token_len, piece_len, is_white, Token, tokens, Skipped}
 use Rattle.pack_token.proofs.Pieces.{piece, pieced, tokens_turn, no_tokens}

@@ -7,7 +7,7 @@ use native.Mathlib.Omega.{arith}
 use lib.Dec.{eqb, ltb}
 use lib.ListN.{length}
 use borrow.Author.Tests.{ltb-false, le-ltb}
-use Rattle.decimal.specs.Choice.{if◌then◌else◌}
+use Rattle.std.specs.Prelude.{if◌then◌else◌}
 use Rattle.decimal.proofs.Choices.{choice, tested, not_both}
 use Rattle.pack_rules.specs.Syntax.{Relation}
 use Rattle.pack_rules.specs.Held.{held_rules, lent}

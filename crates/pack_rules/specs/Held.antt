@@ -1,6 +1,5 @@
 -- The rules that a parsed pack's arrays hold.
-use Rattle.std.specs.Prelude.{List, [], ◌∷◌, map, ℕ, ◌-◌, eqb, take, drop}
-use Rattle.decimal.specs.Choice.{if◌then◌else◌}
+use Rattle.std.specs.Prelude.{List, [], ◌∷◌, map, ℕ, ◌-◌, eqb, take, drop, if◌then◌else◌}
 use Rattle.answer.specs.declared.Keyword.{Keyword}
 use Rattle.answer.specs.declared.Keyword.TheVariants.{Zero, One, Two, Few, Many, Other}
 use Rattle.pack_rules.specs.Syntax.{Range, Relation, Rule}

@@ -1,6 +1,5 @@
 -- What stretches of a parsed pack's arrays hold, place by place.
-use Rattle.std.specs.Prelude.{List, [], ◌∷◌, ℕ, zero, suc, ◌+◌, ◌*◌, ◌-◌, min, eqb, get_or}
-use Rattle.decimal.specs.Choice.{if◌then◌else◌}
+use Rattle.std.specs.Prelude.{List, [], ◌∷◌, ℕ, zero, suc, ◌+◌, ◌*◌, ◌-◌, min, eqb, get_or, if◌then◌else◌}
 use Rattle.pack_rules.specs.Room.{range_room, relation_room, clause_room}
 use Rattle.pack_rules.specs.Syntax.{Range, Relation, Rule}
 use Rattle.pack_rules.specs.Held.{Pack, keyword_of}

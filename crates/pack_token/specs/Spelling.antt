@@ -1,6 +1,6 @@
 -- Byte strings: whether two are the same, and which of some a text begins with.
-use Rattle.std.specs.Prelude.{Bool, true, false, List, [], ◌∷◌, ℕ, eqb, length}
-use Rattle.decimal.specs.Choice.{if◌then◌else◌, both}
+use Rattle.std.specs.Prelude.{Bool, true, false, List, [], ◌∷◌, ℕ, eqb, length, if◌then◌else◌}
+use Rattle.decimal.specs.Choice.{both}
 
 -- two texts are the same, byte for byte
 abbrev pub same : List ℕ → List ℕ → Bool

@@ -1,6 +1,5 @@
 -- The tokens of a pack's text, each with its place. A token is its bytes.
-use Rattle.std.specs.Prelude.{◌≡◌, Bool, false, List, [], ◌∷◌, ℕ, zero, suc, ◌+◌, ◌≤◌, max, ltb, eqb, length, get_or, take, drop}
-use Rattle.decimal.specs.Choice.{if◌then◌else◌}
+use Rattle.std.specs.Prelude.{◌≡◌, Bool, false, List, [], ◌∷◌, ℕ, zero, suc, ◌+◌, ◌≤◌, max, ltb, eqb, length, get_or, take, drop, if◌then◌else◌}
 use Rattle.decimal.specs.Lists.{run_of}
 use Rattle.decimal.specs.Digits.{is_digit, run}
 use Rattle.pack_token.specs.Spelling.{starts, length_of}

@@ -4,8 +4,7 @@
 // and any place.
 #![tactic(auto)]
 
-ghost use Rattle.std.specs.Prelude.{◌≡◌, true, false, ◌≤◌, eqb, ltb, length, get_or, drop};
-ghost use Rattle.decimal.specs.Choice.{if◌then◌else◌};
+ghost use Rattle.std.specs.Prelude.{◌≡◌, true, false, ◌≤◌, eqb, ltb, length, get_or, drop, if◌then◌else◌};
 ghost use Rattle.pack_token.specs.Spelling.{same, starts, length_of};
 ghost use Rattle.pack_token.specs.Token.{whites, white_len, is_letter, letters, token_len, piece_len, Skipped};
 

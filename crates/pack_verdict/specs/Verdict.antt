@@ -1,6 +1,5 @@
 -- The answer at a pack's end, behind a last `;`: a rule has been closed there, or nothing could follow.
-use Rattle.std.specs.Prelude.{ℕ, eqb, ltb}
-use Rattle.decimal.specs.Choice.{if◌then◌else◌}
+use Rattle.std.specs.Prelude.{ℕ, eqb, ltb, if◌then◌else◌}
 use Rattle.answer.specs.declared.PackRow.TheVariants.{NotAPack}
 use Rattle.answer.specs.declared.Refusal.TheVariants.{PackTooLong, Pack as OfPack}
 use Rattle.pack_grammar.specs.Limits.{max_bytes}

@@ -1,7 +1,6 @@
 -- Where the code stands while it reads a pack, and how a token changes it: the phase, how many of each kind have been read, what is being read, and
 -- the first fault.
-use Rattle.std.specs.Prelude.{Bool, List, ℕ, get_or, take}
-use Rattle.decimal.specs.Choice.{if◌then◌else◌}
+use Rattle.std.specs.Prelude.{Bool, List, ℕ, get_or, take, if◌then◌else◌}
 use Rattle.pack_token.specs.Spelling.{same}
 use Rattle.pack_token.specs.Token.{differ}
 use Rattle.pack_grammar.specs.Limits.{is_modulus}

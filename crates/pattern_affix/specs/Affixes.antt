@@ -1,6 +1,5 @@
 -- What is asked of a pattern's items: reserved bytes, affixes, percent and permille marks.
-use Rattle.std.specs.Prelude.{Bool, true, false, not, List, [], ◌∷◌, ℕ, zero, suc, ◌+◌, ◌-◌, eqb}
-use Rattle.decimal.specs.Choice.{if◌then◌else◌}
+use Rattle.std.specs.Prelude.{Bool, true, false, not, List, [], ◌∷◌, ℕ, zero, suc, ◌+◌, ◌-◌, eqb, if◌then◌else◌}
 use Rattle.pattern_token.specs.declared.Mark.{Mark}
 use Rattle.pattern_token.specs.declared.Mark.TheVariants.{Minus, Plus, Percent, Permille}
 use Rattle.pattern_token.specs.declared.Item.{Item}

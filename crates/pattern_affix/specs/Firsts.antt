@@ -1,6 +1,5 @@
 -- The bytes that tokens begin with: where none of them stands, no such token does, and no item need be read.
-use Rattle.std.specs.Prelude.{Bool, true, false, List, [], ◌∷◌, ℕ, eqb}
-use Rattle.decimal.specs.Choice.{if◌then◌else◌}
+use Rattle.std.specs.Prelude.{Bool, true, false, List, [], ◌∷◌, ℕ, eqb, if◌then◌else◌}
 use Rattle.pattern_token.specs.declared.Mark.{Mark}
 use Rattle.pattern_token.specs.declared.Mark.TheVariants.{Minus, Plus, Percent, Permille}
 

@@ -8,7 +8,8 @@ use borrow.Author.Tests.{ne_eqb, eqb-true, lt-ltb}
 use lib.Dec.{eqb, ltb}
 use lib.ListN.{length, get_or, take, drop, length-drop}
 use lib.Seq.{take-add}
-use Rattle.decimal.specs.Choice.{if◌then◌else◌, both, either}
+use Rattle.std.specs.Prelude.{if◌then◌else◌}
+use Rattle.decimal.specs.Choice.{both, either}
 use Rattle.decimal.specs.Digits.{is_digit, begins}
 use Rattle.decimal.proofs.Choices.{choice, tested, not_both, both_true}
 use Rattle.decimal.proofs.Runs.{digit_bounds}

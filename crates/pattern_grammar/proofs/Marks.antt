@@ -6,7 +6,7 @@ use Prim.Native.Nat.{ℕ, zero, suc, ◌+◌, ◌≤◌, ◌<◌}
 use native.Mathlib.Omega.{arith}
 use borrow.Author.Tests.{ne_eqb, eqb-true, ltb-true, ltb-false}
 use lib.Dec.{eqb, ltb}
-use Rattle.decimal.specs.Choice.{if◌then◌else◌}
+use Rattle.std.specs.Prelude.{if◌then◌else◌}
 use Rattle.decimal.proofs.Choices.{choice, tested, not_both, both_true}
 use Rattle.pattern_token.specs.declared.Mark.{Mark}
 use Rattle.pattern_token.specs.declared.Mark.TheVariants.{Percent, Permille}

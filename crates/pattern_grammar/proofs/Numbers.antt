@@ -7,7 +7,8 @@ use native.Mathlib.Omega.{arith}
 use borrow.Author.Tests.{eqb-true, eqb-false, ltb-false}
 use lib.Dec.{eqb, ltb}
 use lib.ListN.{length}
-use Rattle.decimal.specs.Choice.{if◌then◌else◌, either}
+use Rattle.std.specs.Prelude.{if◌then◌else◌}
+use Rattle.decimal.specs.Choice.{either}
 use Rattle.decimal.specs.Digits.{is_digit, AllDigits, value_from, value}
 use Rattle.decimal.proofs.Choices.{tested, not_both}
 use Rattle.decimal.proofs.Runs.{of_head}

@@ -9,7 +9,7 @@ use borrow.Author.Tests.{eq-eqb, ne_eqb, eqb-true, eqb-false, ltb-true, ltb-fals
 use lib.Dec.{eqb, ltb}
 use lib.ListN.{length, get_or, take, drop, take-append-drop, length-drop, length-append, drop_of_length-le}
 use lib.Seq.{take_at, drop_at, take-length, drop-cons}
-use Rattle.decimal.specs.Choice.{if◌then◌else◌}
+use Rattle.std.specs.Prelude.{if◌then◌else◌}
 use Rattle.decimal.specs.Digits.{is_digit, begins, run, AllDigits}
 use Rattle.decimal.proofs.Choices.{tested, not_both}
 use Rattle.decimal.proofs.Runs.{of_head, of_cons, of_run, run_append, run_le}

@@ -9,7 +9,8 @@ use borrow.Author.Tests.{eq-eqb, ne_eqb, eqb-true}
 use lib.Dec.{eqb}
 use lib.ListN.{length, get_or, take, drop, take-append-drop, length-append, length-drop}
 use lib.Seq.{take-add, take_at, drop_at, drop-drop, take-length, drop-length, drop-cons, get_or-append_seam}
-use Rattle.decimal.specs.Choice.{if◌then◌else◌, both}
+use Rattle.std.specs.Prelude.{if◌then◌else◌}
+use Rattle.decimal.specs.Choice.{both}
 use Rattle.decimal.specs.Digits.{is_digit, AllDigits}
 use Rattle.decimal.proofs.Choices.{tested, not_both, both_true}
 use Rattle.decimal.proofs.Runs.{of_head}

@@ -9,7 +9,7 @@ use borrow.Author.Tests.{eqb-true, eqb-false}
 use lib.Dec.{eqb}
 use lib.ListN.{length, take, drop}
 use lib.Seq.{take_at, take-length, drop_at, drop-drop}
-use Rattle.decimal.specs.Choice.{if◌then◌else◌}
+use Rattle.std.specs.Prelude.{if◌then◌else◌}
 use Rattle.decimal.proofs.Choices.{tested}
 use Rattle.pattern_token.specs.Items.{permille as permille_mark}
 use Rattle.pattern_reader.specs.declared.Negative.{Negative}

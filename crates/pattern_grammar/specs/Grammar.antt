@@ -1,7 +1,6 @@
 -- Document 01, "The pattern": what a pattern is, on bytes, quotes and all. "A prefix, a number part, a suffix; optionally `;` and a negative
 -- subpattern." Reserved bytes are refusal 32's and play no part here.
-use Rattle.std.specs.Prelude.{◌≡◌, Bool, true, false, not, List, [], ◌∷◌, ◌++◌, ℕ, eqb}
-use Rattle.decimal.specs.Choice.{if◌then◌else◌}
+use Rattle.std.specs.Prelude.{◌≡◌, Bool, true, false, not, List, [], ◌∷◌, ◌++◌, ℕ, eqb, if◌then◌else◌}
 use Rattle.decimal.specs.Digits.{begins}
 use Rattle.pattern_token.specs.Items.{is_place}
 use Rattle.pattern_grammar.specs.NumberPart.{IsPart}

@@ -1,6 +1,5 @@
 -- Document 01, "The pattern": what a pattern asks for, over the grammar's parts.
-use Rattle.std.specs.Prelude.{Bool, false, List, [], ◌∷◌, ◌++◌, map, ◌⊎◌, ◌≡◌, ℕ, ◌+◌, ◌<◌, eqb, length}
-use Rattle.decimal.specs.Choice.{if◌then◌else◌}
+use Rattle.std.specs.Prelude.{Bool, false, List, [], ◌∷◌, ◌++◌, map, ◌⊎◌, ◌≡◌, ℕ, ◌+◌, ◌<◌, eqb, length, if◌then◌else◌}
 use Rattle.decimal.specs.Digits.{value}
 use Rattle.pattern_token.specs.Items.{starts, permille as permille_mark}
 use Rattle.pattern_number.specs.Shape.{digits, primary_of, secondary_of}

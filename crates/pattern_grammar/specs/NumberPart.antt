@@ -1,7 +1,6 @@
 -- Document 01, "The pattern": what a number part is. "Number part: integer places `#` first, then digits; optionally `.`, then digits, then `#`.
 -- Either side of the point may be empty, but at least one digit stands in the part."
-use Rattle.std.specs.Prelude.{◌≡◌, false, List, [], ◌∷◌, ◌++◌, ℕ, suc, ◌<◌, eqb, length, get_or}
-use Rattle.decimal.specs.Choice.{if◌then◌else◌}
+use Rattle.std.specs.Prelude.{◌≡◌, false, List, [], ◌∷◌, ◌++◌, ℕ, suc, ◌<◌, eqb, length, get_or, if◌then◌else◌}
 use Rattle.decimal.specs.Lists.{AllOf}
 use Rattle.decimal.specs.Digits.{begins, AllDigits}
 use Rattle.pattern_number.specs.Shape.{is_hash, digits}

@@ -1,7 +1,6 @@
 -- Document 01, "The pattern": the number part, its grammar and what it asks for.
-use Rattle.std.specs.Prelude.{Bool, true, false, not, List, [], ◌∷◌, ℕ, suc, ◌+◌, ◌*◌, ◌-◌, min, ltb, eqb, length, get_or, take, drop}
+use Rattle.std.specs.Prelude.{Bool, true, false, not, List, [], ◌∷◌, ℕ, suc, ◌+◌, ◌*◌, ◌-◌, min, ltb, eqb, length, get_or, take, drop, if◌then◌else◌}
 use Rattle.decimal.specs.Lists.{run_of}
-use Rattle.decimal.specs.Choice.{if◌then◌else◌}
 use Rattle.decimal.specs.Digits.{is_digit, begins, run}
 use Rattle.decimal.specs.Split.{until}
 use Rattle.pattern_number.specs.declared.Shape.{Shape}

@@ -1,7 +1,7 @@
 -- Document 01, "The pattern": what is read of a pattern, and refusals 30 to 36 in the order of the table.
-use Rattle.std.specs.Prelude.{Bool, List, ℕ, ◌+◌, ltb, eqb, length, get_or, take, drop}
+use Rattle.std.specs.Prelude.{Bool, List, ℕ, ◌+◌, ltb, eqb, length, get_or, take, drop, if◌then◌else◌}
 use Rattle.decimal.specs.Lists.{run_of}
-use Rattle.decimal.specs.Choice.{if◌then◌else◌, both, either}
+use Rattle.decimal.specs.Choice.{both, either}
 use Rattle.utf8.specs.Utf8.{is_utf8}
 use Rattle.pattern_affix.specs.declared.Affix.{Affix}
 use Rattle.pattern_token.specs.declared.Mark.{Mark}

@@ -1,6 +1,6 @@
 -- Document 01, "The pattern": its bytes read as items, quotes and all.
-use Rattle.std.specs.Prelude.{Bool, true, false, not, List, [], ◌∷◌, ℕ, zero, suc, ◌-◌, eqb, get_or}
-use Rattle.decimal.specs.Choice.{if◌then◌else◌, both}
+use Rattle.std.specs.Prelude.{Bool, true, false, not, List, [], ◌∷◌, ℕ, zero, suc, ◌-◌, eqb, get_or, if◌then◌else◌}
+use Rattle.decimal.specs.Choice.{both}
 use Rattle.decimal.specs.Digits.{is_digit}
 use Rattle.pattern_token.specs.declared.Mark.TheVariants.{Minus, Plus, Percent, Permille}
 use Rattle.pattern_token.specs.declared.Item.{Item}

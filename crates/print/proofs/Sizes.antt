@@ -5,7 +5,7 @@ use Prim.Native.Nat.{ℕ, zero, suc, ◌+◌, ◌*◌, ◌-◌, ◌≤◌, min, 
 use native.Mathlib.Omega.{arith}
 use lib.Dec.{ltb}
 use lib.ListN.{length, take, drop, length-append, length-take, length-drop}
-use Rattle.decimal.specs.Choice.{if◌then◌else◌}
+use Rattle.std.specs.Prelude.{if◌then◌else◌}
 use Rattle.decimal.specs.Digits.{lead, trim}
 use Rattle.pattern_token.specs.declared.Item.{Item}
 use Rattle.pattern_token.specs.declared.Item.TheVariants.{Text, Symbol as SymbolItem, Place, Quote, Semicolon, Reserved}

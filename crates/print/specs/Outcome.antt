@@ -1,6 +1,5 @@
 -- Document 01: "Printing tests symbols, pattern, number, 50, 51."
-use Rattle.std.specs.Prelude.{List, ℕ, ltb}
-use Rattle.decimal.specs.Choice.{if◌then◌else◌}
+use Rattle.std.specs.Prelude.{List, ℕ, ltb, if◌then◌else◌}
 use Rattle.answer.specs.declared.Refusal.{Refusal}
 use Rattle.answer.specs.declared.Refusal.TheVariants.{Print as OfPrint}
 use Rattle.answer.specs.declared.PrintRow.TheVariants.{PrintedExponent, AreaTooShort}

@@ -3,6 +3,8 @@
 //
 // The entry is print. specs/Outcome.antt says which refusal or text it is and what the area holds
 // behind; crate print_area writes it.
+#![tactic(auto)]
+
 ghost use Rattle.std.specs.Prelude.{◌≡◌, true, ◌≤◌, length};
 ghost use Rattle.area.specs.Area.{most};
 ghost use Rattle.rounding.specs.Limits.{within};

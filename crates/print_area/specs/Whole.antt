@@ -1,7 +1,6 @@
 -- A text in an output area: document 01's row 51, "text longer than the output area", and "A refusal writes nothing; a success writes its text at the
 -- front and no byte beyond, and returns its length."
-use Rattle.std.specs.Prelude.{Bool, List, ◌++◌, ℕ, ltb, length, drop}
-use Rattle.decimal.specs.Choice.{if◌then◌else◌}
+use Rattle.std.specs.Prelude.{Bool, List, ◌++◌, ℕ, ltb, length, drop, if◌then◌else◌}
 use Rattle.print_area.specs.declared.Written.{Written}
 use Rattle.print_area.specs.declared.Written.TheVariants.{Whole, TooLong}
 

@@ -8,7 +8,8 @@ use native.Mathlib.Omega.{arith}
 use borrow.Author.Tests.{eqb-true}
 use lib.Dec.{eqb}
 use lib.ListN.{drop}
-use Rattle.decimal.specs.Choice.{if◌then◌else◌, both}
+use Rattle.std.specs.Prelude.{if◌then◌else◌}
+use Rattle.decimal.specs.Choice.{both}
 use Rattle.decimal.proofs.Choices.{tested, not_both, both_true}
 use Rattle.pattern_token.specs.declared.Item.{Item}
 use Rattle.pattern_token.specs.declared.Item.TheVariants.{Text}

@@ -8,7 +8,8 @@ use borrow.Author.Tests.{eqb-true}
 use lib.Dec.{eqb}
 use lib.ListN.{length, get_or, drop}
 use lib.Seq.{drop_at}
-use Rattle.decimal.specs.Choice.{if◌then◌else◌, both, either}
+use Rattle.std.specs.Prelude.{if◌then◌else◌}
+use Rattle.decimal.specs.Choice.{both, either}
 use Rattle.decimal.proofs.Choices.{choices, tested, not_both, never}
 use Rattle.pattern_token.specs.declared.Item.{Item}
 use Rattle.pattern_token.specs.declared.Item.TheVariants.{Place}

@@ -11,7 +11,7 @@ use lib.Arith.{digits_div, digits_mod}
 use lib.Dec.{eqb}
 use lib.Pow.{pow-add}
 use lib.ListN.{length, get_or, take, drop, length-take, length-drop, take-append-drop}
-use Rattle.decimal.specs.Choice.{if◌then◌else◌}
+use Rattle.std.specs.Prelude.{if◌then◌else◌}
 use Rattle.decimal.specs.Digits.{AllDigits, value_from, value, lead, shown, keep, trim, is_digit, is_zero}
 use Rattle.decimal.proofs.Runs.{of_take, of_drop, run_le}
 use Rattle.decimal.proofs.Values.{power_pos, value_append, value_from_law, value_lt}

@@ -1,6 +1,5 @@
 -- What printing gave before document 02's kind 71: "Grouping is printed wherever the integer has more digits than the primary group".
-use Rattle.std.specs.Prelude.{List, [], ◌++◌, ℕ, ltb}
-use Rattle.decimal.specs.Choice.{if◌then◌else◌}
+use Rattle.std.specs.Prelude.{List, [], ◌++◌, ℕ, ltb, if◌then◌else◌}
 use Rattle.answer.specs.declared.Refusal.TheVariants.{Print as OfPrint}
 use Rattle.answer.specs.declared.PrintRow.TheVariants.{PrintedExponent}
 use Rattle.symbols.specs.declared.Symbol.{Symbol}

@@ -1,6 +1,6 @@
 -- Document 01, "The pattern", with document 02's minimum grouping digits: what a printed text is, as one relation between the pattern's bytes, what was read of them, the number, and the text.
-use Rattle.std.specs.Prelude.{◌≡◌, Bool, true, false, not, List, [], ◌∷◌, ◌++◌, ℕ, eqb, ltb, length}
-use Rattle.decimal.specs.Choice.{if◌then◌else◌, both}
+use Rattle.std.specs.Prelude.{◌≡◌, Bool, true, false, not, List, [], ◌∷◌, ◌++◌, ℕ, eqb, ltb, length, if◌then◌else◌}
+use Rattle.decimal.specs.Choice.{both}
 use Rattle.decimal.specs.Digits.{begins}
 use Rattle.pattern_token.specs.Items.{starts, permille}
 use Rattle.symbols.specs.declared.Symbol.{Symbol}

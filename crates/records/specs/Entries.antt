@@ -1,7 +1,6 @@
 -- Document 01's habit of records: "One byte of kind, then a body whose length the kind fixes; records run to the end." Who uses it gives two functions of a
 -- kind byte: `lengths`, the length of the body (0: the kind is unknown), and `names`, what the kind stands for.
-use Rattle.std.specs.Prelude.{◌≡◌, Bool, true, false, List, [], ◌∷◌, ℕ, zero, suc, ◌+◌, ◌≤◌, ◌<◌, ltb, eqb, length, get_or, take, drop}
-use Rattle.decimal.specs.Choice.{if◌then◌else◌}
+use Rattle.std.specs.Prelude.{◌≡◌, Bool, true, false, List, [], ◌∷◌, ℕ, zero, suc, ◌+◌, ◌≤◌, ◌<◌, ltb, eqb, length, get_or, take, drop, if◌then◌else◌}
 use Rattle.records.specs.declared.Head.{Head}
 use Rattle.records.specs.declared.Spot.{Spot}
 

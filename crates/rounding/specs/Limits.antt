@@ -1,6 +1,6 @@
 -- What the digit area holds: each bound once. They leave room for every admitted number and every pattern.
-use Rattle.std.specs.Prelude.{Bool, false, List, ℕ, ◌*◌, ◌/◌, ltb, leb, length}
-use Rattle.decimal.specs.Choice.{if◌then◌else◌, both}
+use Rattle.std.specs.Prelude.{Bool, false, List, ℕ, ◌*◌, ◌/◌, ltb, leb, length, if◌then◌else◌}
+use Rattle.decimal.specs.Choice.{both}
 use Rattle.decimal.specs.Digits.{figures}
 use Rattle.nearest.specs.Nearest.{units_of}
 

@@ -1,6 +1,5 @@
 -- Document 01, "The symbol record": what a record holds, for any bytes, and refusals 40 and 41.
-use Rattle.std.specs.Prelude.{Bool, not, false, List, [], ◌∷◌, ℕ, ltb, eqb, get_or}
-use Rattle.decimal.specs.Choice.{if◌then◌else◌}
+use Rattle.std.specs.Prelude.{Bool, not, false, List, [], ◌∷◌, ℕ, ltb, eqb, get_or, if◌then◌else◌}
 use Rattle.decimal.specs.Digits.{is_digit}
 use Rattle.utf8.specs.Utf8.{is_char}
 use Rattle.answer.specs.declared.SymbolRow.{SymbolRow}

@@ -1,7 +1,6 @@
 -- Document 01, "The symbol record": "A kind byte decides by its upper and lower half: upper 1 decimal, 2 group, 3 minus, 4 plus, 5 percent, 6 permille;
 -- lower 1 to 4 is the body length." Document 02 adds "symbol kind 71, whose one-byte body is 01 to 04": the minimum grouping digits.
-use Rattle.std.specs.Prelude.{Bool, false, ℕ, ◌/◌, ◌%◌, ltb, eqb}
-use Rattle.decimal.specs.Choice.{if◌then◌else◌}
+use Rattle.std.specs.Prelude.{Bool, false, ℕ, ◌/◌, ◌%◌, ltb, eqb, if◌then◌else◌}
 use Rattle.symbols.specs.declared.Symbol.{Symbol}
 use Rattle.symbols.specs.declared.Symbol.TheVariants.{Decimal, Group, Minus, Plus, Percent, Permille, Minimum}
 use Rattle.symbols.specs.declared.Kind.{Kind}

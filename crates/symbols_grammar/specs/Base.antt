@@ -1,6 +1,5 @@
 -- The symbol record as document 01 has it, without document 02's kind 71: what the theorem that nothing else changed is about.
-use Rattle.std.specs.Prelude.{List, [], ◌∷◌, Bool, ◌≡◌, ℕ}
-use Rattle.decimal.specs.Choice.{if◌then◌else◌}
+use Rattle.std.specs.Prelude.{List, [], ◌∷◌, Bool, ◌≡◌, ℕ, if◌then◌else◌}
 use Rattle.answer.specs.declared.SymbolRow.TheVariants.{NotASymbolRecord, BadSymbolBody}
 use Rattle.records.specs.Entries as records
 use Rattle.records.specs.Entries.{Entry, without}

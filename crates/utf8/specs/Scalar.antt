@@ -1,6 +1,6 @@
 -- Which bytes spell a code point: the Unicode Standard, table 3-6, for every number up to 10FFFF that is no surrogate.
-use Rattle.std.specs.Prelude.{◌≡◌, Bool, true, List, [], ◌∷◌, ◌++◌, ℕ, ◌+◌, ◌/◌, ◌%◌, ltb, length}
-use Rattle.decimal.specs.Choice.{if◌then◌else◌, both}
+use Rattle.std.specs.Prelude.{◌≡◌, Bool, true, List, [], ◌∷◌, ◌++◌, ℕ, ◌+◌, ◌/◌, ◌%◌, ltb, length, if◌then◌else◌}
+use Rattle.decimal.specs.Choice.{both}
 
 -- the number can be spelled: it is at most 10FFFF, and none of the surrogates D800 to DFFF
 abbrev pub is_scalar : ℕ → Bool

@@ -1,7 +1,6 @@
 -- UTF-8 on bytes: the well-formed byte sequences of the Unicode Standard, table 3-7. No other form is UTF-8: none is longer than needed, none spells a
 -- surrogate or a number above 10FFFF.
-use Rattle.std.specs.Prelude.{Bool, true, false, List, [], ◌∷◌, ℕ, zero, suc, ◌-◌, ltb, eqb, length, get_or, take, drop}
-use Rattle.decimal.specs.Choice.{if◌then◌else◌}
+use Rattle.std.specs.Prelude.{Bool, true, false, List, [], ◌∷◌, ℕ, zero, suc, ◌-◌, ltb, eqb, length, get_or, take, drop, if◌then◌else◌}
 
 -- how many bytes a code point has that begins with this byte (0: none does)
 abbrev pub char_bytes : ℕ → ℕ

@@ -1,7 +1,6 @@
 -- `check_runs::clause::passes_at` asks the last digit and each relation. Invariant: x passes all exactly where it passes those left.
 use Rattle.pack_rules.specs.Stretch.{single_at, relation_by, table}
 use native.Mathlib.Omega.{arith}
-use Prim.Native.Nat.{◌-◌}
 use mathlib.Core.Path.{sym, ap, ◌∙◌}
 use borrow.Author.Tests.{not-true, not-false}
 use Rattle.pack_rules.specs.Syntax.{Relation}
@@ -17,6 +16,12 @@ returns-then-not-ends_of c =
     let a = c.args in
     let T = table a.columns.now a.low.now a.high.now in
     ends_not T a.s a.q a.x c.ends_of.result c.ends_of.ensures (not-true _ c.if-not-ends_of.true-raw)
+
+pub loop-k-init : goal.loop-k-init
+loop-k-init c =
+    let a = c.args in
+    let T = table a.columns.now a.low.now a.high.now in
+    (rest_all T a.s a.q a.x c.ends_of.result c.ends_of.ensures (not-false _ c.if-not-ends_of.false-raw), c.size_of-size.ensures)
 
 pub place_of-j-requires : goal.place_of-j-requires
 place_of-j-requires c = (c.requires.1, c.requires.2, omega (arith, c.loop-k.invariant.1, c.loop-k-test.true))
