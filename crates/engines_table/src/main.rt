@@ -1,6 +1,8 @@
 // Reads packs, one a line, and prints for each the answers of the two engines of the check and whether
 // they are the same: `passes`, or 27 with the pair and e, v, i and f of the least number. A pack that
 // is not read gets `!` and the number and place of its refusal.
+#![tactic(auto)]
+
 ghost use Rattle.std.specs.Prelude.{◌≡◌};
 ghost use Rattle.decimal.specs.Choice.{both};
 ghost use Rattle.pack_rules.specs.Held.{held_rules, lent};
@@ -9,9 +11,10 @@ ghost use Rattle.engines_table.specs.Same.{same_pair, same_number, same_clash, s
 
 use answer::{Pair, Refusal, Witness};
 use check_laws::Checked;
-use libc::{STDIN_FILENO, STDOUT_FILENO};
 use pack_rules::{ClauseEnds, Columns, Keywords, RangeEnds, RuleEnds};
 use pack_verdict::Read;
+use std::io;
+use std::io::Read as _;
 
 // What the two engines answer for one pack.
 #[derive(Clone, Copy)]
@@ -108,59 +111,58 @@ fn wide(x: u8) -> u64 {
     x as u64
 }
 
-fn print_text(s: &[u8]) {
-    io::write_all(STDOUT_FILENO, s);
+fn print_text(rt: &impl Print, s: &[u8]) -> io::Result<()> {
+    rt.write_all(s)
 }
 
-fn print_figure(x: u64) {
-    print_text(b" ");
-    io::print_decimal(STDOUT_FILENO, x);
+fn print_figure(rt: &impl Print, x: u64) -> io::Result<()> {
+    print!(rt; " {x}")
 }
 
-fn print_clash(pair: Pair, x: Witness) {
-    print_text(b" 27");
-    print_figure(wide(pair.first));
-    print_figure(wide(pair.second));
+fn print_clash(rt: &impl Print, pair: Pair, x: Witness) -> io::Result<()> {
+    print_text(rt, b" 27")?;
+    print_figure(rt, wide(pair.first))?;
+    print_figure(rt, wide(pair.second))?;
     let v = x.v;
     let f = x.f;
-    print_figure(wide(x.e));
-    print_figure(wide(v.0));
-    print_figure(x.i);
-    print_figure(f.0);
+    print_figure(rt, wide(x.e))?;
+    print_figure(rt, wide(v.0))?;
+    print_figure(rt, x.i)?;
+    print_figure(rt, f.0)
 }
 
-fn print_checked(c: Checked) {
+fn print_checked(rt: &impl Print, c: Checked) -> io::Result<()> {
     match c {
-        Checked::Passes => print_text(b" passes"),
-        Checked::Clashes(pair, x) => print_clash(pair, x),
+        Checked::Passes => print_text(rt, b" passes"),
+        Checked::Clashes(pair, x) => print_clash(rt, pair, x),
     }
 }
 
-fn print_answers(a: Answers) {
+fn print_answers(rt: &impl Print, a: Answers) -> io::Result<()> {
     let fast = a.fast;
     let plain = a.plain;
-    print_text(b"fast");
-    print_checked(fast);
-    print_text(b", plain");
-    print_checked(plain);
+    print_text(rt, b"fast")?;
+    print_checked(rt, fast)?;
+    print_text(rt, b", plain")?;
+    print_checked(rt, plain)?;
     if same_answer(fast, plain) {
-        print_text(b": same\n");
+        print_text(rt, b": same\n")
     } else {
-        print_text(b": not the same\n");
+        print_text(rt, b": not the same\n")
     }
 }
 
-fn print_refusal(r: Refusal) {
-    print_text(b"!");
-    print_figure(wide(answer_table::number(r)));
+fn print_refusal(rt: &impl Print, r: Refusal) -> io::Result<()> {
+    print_text(rt, b"!")?;
+    print_figure(rt, wide(answer_table::number(r)))?;
     let f = answer_lists::figures(r);
     if 0 < f.count {
-        print_figure(f.values[0]);
+        print_figure(rt, f.values[0])?;
     }
-    print_text(b"\n");
+    print_text(rt, b"\n")
 }
 
-fn print_check(pack: &[u8]) {
+fn print_check(rt: &impl Print, pack: &[u8]) -> io::Result<()> {
     let mut low: RangeEnds = [0; 2048];
     let mut high: RangeEnds = [0; 2048];
     let mut columns: Columns = [0; 1280];
@@ -177,25 +179,28 @@ fn print_check(pack: &[u8]) {
         &mut clauses,
     );
     match read {
-        Read::Rules(count) => print_answers(ask_both(
-            &columns, &low, &high, &relations, &keyword, &clauses, count,
-        )),
-        Read::Refused(x) => print_refusal(x),
+        Read::Rules(count) => print_answers(
+            rt,
+            ask_both(&columns, &low, &high, &relations, &keyword, &clauses, count),
+        ),
+        Read::Refused(x) => print_refusal(rt, x),
     }
 }
 
-fn print_all(input: &[u8]) {
+fn print_all(rt: &impl Print, input: &[u8]) -> io::Result<()> {
     let mut from = 0;
     while from < input.len() {
         let rest = decimal::cut::after(input, from);
         let n = decimal::scan::run_until(rest, 10);
-        print_check(decimal::cut::upto(rest, n));
+        print_check(rt, decimal::cut::upto(rest, n))?;
         from = line::next_line(from, n, input.len());
     }
+    Ok(())
 }
 
-fn main() {
-    let mut buffer = io::large_buffer();
-    let held = io::read_full(STDIN_FILENO, &mut buffer);
-    print_all(&buffer[..held]);
+fn main(rt: HostRuntime) -> io::Result<()> {
+    let mut buffer = [0u8; 65_536];
+    let mut rest = &mut buffer[..];
+    let held = io::copy(&mut rt.stdin().take(65_536), &mut rest)?;
+    print_all(&rt, decimal::cut::upto(&buffer, held as usize))
 }

@@ -2,8 +2,9 @@
 // the number of its refusal.
 #![tactic(auto)]
 
-use libc::{STDIN_FILENO, STDOUT_FILENO};
 use number::{Number, Reading};
+use std::io;
+use std::io::Read;
 
 fn wide(x: u8) -> u64 {
     x as u64
@@ -56,10 +57,11 @@ fn append_all(out: &mut [u8], input: &[u8]) -> usize {
     used
 }
 
-fn main() {
-    let mut buffer = io::large_buffer();
-    let held = io::read_full(STDIN_FILENO, &mut buffer);
-    let mut out = io::large_buffer();
-    let used = append_all(&mut out, &buffer[..held]);
-    io::write_all(STDOUT_FILENO, decimal::cut::upto(&out, used));
+fn main(rt: HostRuntime) -> io::Result<()> {
+    let mut buffer = [0u8; 65_536];
+    let mut rest = &mut buffer[..];
+    let held = io::copy(&mut rt.stdin().take(65_536), &mut rest)?;
+    let mut out = [0u8; 65_536];
+    let used = append_all(&mut out, decimal::cut::upto(&buffer, held as usize));
+    rt.write_all(decimal::cut::upto(&out, used))
 }

@@ -5,9 +5,10 @@
 ghost use Rattle.std.specs.Prelude.{◌≤◌, length};
 
 use answer::Refusal;
-use libc::{STDIN_FILENO, STDOUT_FILENO};
 use pack_rules::{ClauseEnds, Columns, Keywords, RangeEnds, RuleEnds};
 use pack_verdict::Read;
+use std::io;
+use std::io::Read as _;
 
 fn wide(x: usize) -> u64 {
     x as u64
@@ -17,24 +18,23 @@ fn wide_byte(x: u8) -> u64 {
     x as u64
 }
 
-fn print_refusal(r: Refusal) {
-    io::write_all(STDOUT_FILENO, b"! ");
-    io::print_decimal(STDOUT_FILENO, wide_byte(answer_table::number(r)));
+fn print_refusal(rt: &impl Print, r: Refusal) -> io::Result<()> {
+    let number = wide_byte(answer_table::number(r));
+    print!(rt; "! {number}")?;
     let f = answer_lists::figures(r);
     if 0 < f.count {
-        io::write_all(STDOUT_FILENO, b" ");
-        io::print_decimal(STDOUT_FILENO, f.values[0]);
+        let place = f.values[0];
+        print!(rt; " {place}")?;
     }
-    io::write_all(STDOUT_FILENO, b"\n");
+    println!(rt)
 }
 
-fn print_count(n: usize) {
-    io::write_all(STDOUT_FILENO, b"ok ");
-    io::print_decimal(STDOUT_FILENO, wide(n));
-    io::write_all(STDOUT_FILENO, b"\n");
+fn print_count(rt: &impl Print, n: usize) -> io::Result<()> {
+    let count = wide(n);
+    println!(rt; "ok {count}")
 }
 
-fn print_reading(pack: &[u8]) {
+fn print_reading(rt: &impl Print, pack: &[u8]) -> io::Result<()> {
     let mut low: RangeEnds = [0; 2048];
     let mut high: RangeEnds = [0; 2048];
     let mut columns: Columns = [0; 1280];
@@ -51,8 +51,8 @@ fn print_reading(pack: &[u8]) {
         &mut clauses,
     );
     match read {
-        Read::Rules(n) => print_count(n),
-        Read::Refused(x) => print_refusal(x),
+        Read::Rules(n) => print_count(rt, n),
+        Read::Refused(x) => print_refusal(rt, x),
     }
 }
 
@@ -71,20 +71,25 @@ fn line_end(s: &[u8], from: usize) -> usize
     i
 }
 
-fn print_all(input: &[u8]) {
+fn print_all(rt: &impl Print, input: &[u8]) -> io::Result<()> {
     let mut from = 0;
     while from < input.len() {
         let end = line_end(input, from);
-        print_reading(decimal::cut::after(decimal::cut::upto(input, end), from));
+        print_reading(
+            rt,
+            decimal::cut::after(decimal::cut::upto(input, end), from),
+        )?;
         if end == input.len() {
-            return;
+            return Ok(());
         }
         from = end + 1;
     }
+    Ok(())
 }
 
-fn main() {
-    let mut buffer = io::large_buffer();
-    let held = io::read_full(STDIN_FILENO, &mut buffer);
-    print_all(&buffer[..held]);
+fn main(rt: HostRuntime) -> io::Result<()> {
+    let mut buffer = [0u8; 65_536];
+    let mut rest = &mut buffer[..];
+    let held = io::copy(&mut rt.stdin().take(65_536), &mut rest)?;
+    print_all(&rt, decimal::cut::upto(&buffer, held as usize))
 }

@@ -10,8 +10,9 @@
 ghost use Rattle.std.specs.Prelude.{◌≤◌, length};
 
 use decimal::cut;
-use libc::{STDIN_FILENO, STDOUT_FILENO};
 use pattern_reader::{Negative, Pattern, PatternReading, Span};
+use std::io;
+use std::io::Read;
 
 // How many bytes stand before the end of the line.
 fn line_len(s: &[u8]) -> usize
@@ -31,70 +32,71 @@ fn wide(x: u8) -> u64 {
     x as u64
 }
 
-fn print(n: u64) {
-    io::print_decimal(STDOUT_FILENO, n);
-    io::write_all(STDOUT_FILENO, b" ");
+fn print(rt: &impl Print, n: u64) -> io::Result<()> {
+    print!(rt; "{n} ")
 }
 
-fn print_span(p: Span) {
-    print(p.start as u64);
-    print(p.len as u64);
+fn print_span(rt: &impl Print, p: Span) -> io::Result<()> {
+    print(rt, p.start as u64)?;
+    print(rt, p.len as u64)
 }
 
-fn print_negative(n: Negative) {
+fn print_negative(rt: &impl Print, n: Negative) -> io::Result<()> {
     match n {
-        Negative::MinusSymbol => {}
+        Negative::MinusSymbol => Ok(()),
         Negative::Own(prefix, suffix) => {
-            print_span(prefix);
-            print_span(suffix);
+            print_span(rt, prefix)?;
+            print_span(rt, suffix)
         }
     }
 }
 
-fn print_pattern(p: Pattern) {
+fn print_pattern(rt: &impl Print, p: Pattern) -> io::Result<()> {
     let prefix = p.prefix;
     let number = p.number;
     let suffix = p.suffix;
     let negative = p.negative;
-    print_span(prefix);
-    print_span(number);
-    print_span(suffix);
-    print(p.least as u64);
-    print(p.fraction as u64);
-    print(p.most as u64);
-    print(p.primary as u64);
-    print(p.secondary as u64);
-    print(p.step);
-    print(p.factor);
-    print_negative(negative);
+    print_span(rt, prefix)?;
+    print_span(rt, number)?;
+    print_span(rt, suffix)?;
+    print(rt, p.least as u64)?;
+    print(rt, p.fraction as u64)?;
+    print(rt, p.most as u64)?;
+    print(rt, p.primary as u64)?;
+    print(rt, p.secondary as u64)?;
+    print(rt, p.step)?;
+    print(rt, p.factor)?;
+    print_negative(rt, negative)
 }
 
-fn print_reading(r: PatternReading) {
+fn print_reading(rt: &impl Print, r: PatternReading) -> io::Result<()> {
     match r {
-        PatternReading::Is(p) => print_pattern(p),
+        PatternReading::Is(p) => print_pattern(rt, p)?,
         PatternReading::Refused(refusal) => {
-            io::write_all(STDOUT_FILENO, b"! ");
-            print(wide(answer_table::number(refusal)));
+            print!(rt; "! ")?;
+            print(rt, wide(answer_table::number(refusal)))?;
         }
     }
-    io::write_all(STDOUT_FILENO, b"\n");
+    println!(rt)
 }
 
-fn print_all(input: &[u8]) {
+fn print_all(rt: &impl Print, input: &[u8]) -> io::Result<()> {
     let mut from = 0;
     while from < input.len() {
         let rest = cut::after(input, from);
         let n = line_len(rest);
-        print_reading(pattern_reader::read_pattern(cut::upto(rest, n)));
+        print_reading(rt, pattern_reader::read_pattern(cut::upto(rest, n)))?;
         if input.len() - from <= n {
-            return;
+            return Ok(());
         }
         from = from + n + 1;
     }
+    Ok(())
 }
 
-fn main() {
-    let mut buffer = io::large_buffer();
-    let held = io::read_full(STDIN_FILENO, &mut buffer);
-    print_all(&buffer[..held]);
+fn main(rt: HostRuntime) -> io::Result<()> {
+    let mut buffer = [0u8; 65_536];
+    let mut rest = &mut buffer[..];
+    let held = io::copy(&mut rt.stdin().take(65_536), &mut rest)?;
+    print_all(&rt, cut::upto(&buffer, held as usize))
 }

@@ -8,7 +8,8 @@
 ghost use Rattle.std.specs.Prelude.{◌≤◌, length};
 
 use decimal::cut;
-use libc::{STDIN_FILENO, STDOUT_FILENO};
+use std::io;
+use std::io::Read;
 use symbols::{Judged, Symbol};
 
 // How many bytes stand before the end of the line.
@@ -29,59 +30,60 @@ fn wide(x: u8) -> u64 {
     x as u64
 }
 
-fn print_judged(j: Judged) {
+fn print_judged(rt: &impl Print, j: Judged) -> io::Result<()> {
     match j {
-        Judged::Good => {
-            io::write_all(STDOUT_FILENO, b"good");
-        }
+        Judged::Good => print!(rt; "good"),
         Judged::Refused(refusal) => {
-            io::write_all(STDOUT_FILENO, b"! ");
-            io::print_decimal(STDOUT_FILENO, wide(answer_table::number(refusal)));
+            let number = wide(answer_table::number(refusal));
+            print!(rt; "! {number}")
         }
     }
 }
 
-fn print_body(body: &[u8]) {
-    io::write_all(STDOUT_FILENO, b" /");
+fn print_body(rt: &impl Print, body: &[u8]) -> io::Result<()> {
+    print!(rt; " /")?;
     let mut i = 0;
     while i < body.len() {
-        io::write_all(STDOUT_FILENO, b" ");
-        io::print_decimal(STDOUT_FILENO, wide(body[i]));
+        let byte = wide(body[i]);
+        print!(rt; " {byte}")?;
         i += 1;
     }
+    Ok(())
 }
 
-fn print_symbol(house: &[u8], y: Symbol) {
-    print_body(symbols::find(house, &symbols::STANDARD, y));
+fn print_symbol(rt: &impl Print, house: &[u8], y: Symbol) -> io::Result<()> {
+    print_body(rt, symbols::find(house, &symbols::STANDARD, y))
 }
 
-fn print_record(record: &[u8]) {
-    print_judged(symbols::read_symbols(record));
-    print_symbol(record, Symbol::Decimal);
-    print_symbol(record, Symbol::Group);
-    print_symbol(record, Symbol::Minus);
-    print_symbol(record, Symbol::Plus);
-    print_symbol(record, Symbol::Percent);
-    print_symbol(record, Symbol::Permille);
-    print_symbol(record, Symbol::Minimum);
-    io::write_all(STDOUT_FILENO, b"\n");
+fn print_record(rt: &impl Print, record: &[u8]) -> io::Result<()> {
+    print_judged(rt, symbols::read_symbols(record))?;
+    print_symbol(rt, record, Symbol::Decimal)?;
+    print_symbol(rt, record, Symbol::Group)?;
+    print_symbol(rt, record, Symbol::Minus)?;
+    print_symbol(rt, record, Symbol::Plus)?;
+    print_symbol(rt, record, Symbol::Percent)?;
+    print_symbol(rt, record, Symbol::Permille)?;
+    print_symbol(rt, record, Symbol::Minimum)?;
+    println!(rt)
 }
 
-fn print_all(input: &[u8]) {
+fn print_all(rt: &impl Print, input: &[u8]) -> io::Result<()> {
     let mut from = 0;
     while from < input.len() {
         let rest = cut::after(input, from);
         let n = line_len(rest);
-        print_record(cut::upto(rest, n));
+        print_record(rt, cut::upto(rest, n))?;
         if input.len() - from <= n {
-            return;
+            return Ok(());
         }
         from = from + n + 1;
     }
+    Ok(())
 }
 
-fn main() {
-    let mut buffer = io::large_buffer();
-    let held = io::read_full(STDIN_FILENO, &mut buffer);
-    print_all(&buffer[..held]);
+fn main(rt: HostRuntime) -> io::Result<()> {
+    let mut buffer = [0u8; 65_536];
+    let mut rest = &mut buffer[..];
+    let held = io::copy(&mut rt.stdin().take(65_536), &mut rest)?;
+    print_all(&rt, cut::upto(&buffer, held as usize))
 }

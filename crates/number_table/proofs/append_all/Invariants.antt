@@ -1,7 +1,5 @@
 -- `number_table::append_all` is safe and ends: each turn leaves less of the input.
-use mathlib.Core.Path.{◌≡◌}
-use Prim.Native.Nat.{◌-◌}
-use lib.ListN.{length}
+use Rattle.std.proofs.Common.{◌≡◌, ◌-◌, length}
 use Rattle.number_table.proofs.append_all.Given as goal
 
 abbrev pub invariant-loop-from : goal.invariant-loop-from

@@ -1,6 +1,5 @@
 -- `line_len` is safe, ends, and answers a place of the text.
-use Prim.Native.Nat.{◌≤◌, ◌-◌}
-use lib.ListN.{length}
+use Rattle.std.proofs.Common.{◌≤◌, ◌-◌, length}
 use Rattle.pattern_table.proofs.line_len.Given as goal
 
 abbrev pub invariant-loop-i : goal.invariant-loop-i
