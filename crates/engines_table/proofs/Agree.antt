@@ -4,7 +4,7 @@ use mathlib.Core.Bool.{Bool, true, false, true≢false}
 use mathlib.Core.Logic.{◌↔◌}
 use Prim.Native.Nat.{ℕ}
 use lib.Dec.{eqb}
-use borrow.Author.Tests.{eqb-true, eq-eqb}
+use borrow.Author.Tests.{eqb-true, eq-eqb, ne_eqb}
 use Rattle.decimal.specs.Choice.{both}
 use Rattle.answer.specs.declared.Pair.{Pair}
 use Rattle.answer.specs.declared.Witness.{Witness}
@@ -12,11 +12,25 @@ use Rattle.pack_rules.specs.Held.{Pack, held_rules}
 use Rattle.check_laws.specs.Check.{check_of}
 use Rattle.check_laws.specs.declared.Checked.{Checked}
 use Rattle.check_laws.specs.declared.Checked.TheVariants.{Passes, Clashes}
-use Rattle.engines_table.specs.Same.{same_pair, same_number, same_answer}
+use Rattle.engines_table.specs.Same.{same_pair, same_number, same_clash, same_answer}
 
 -- For every pack, what `check_pairs::check` returns and what `check_plain::check` returns are equal: each is what its contract says.
 pub engines_agree : (p : Pack) (fast plain : Checked) → fast ≡ check_of (held_rules p) → plain ≡ check_of (held_rules p) → fast ≡ plain
 engines_agree p fast plain f g = f ∙ sym g
+
+-- ---- tests in turn
+
+pub same_so_far : (a b : ℕ) (c d : Bool) → a ≡ b → c ≡ d → c ≡ both (eqb a b) d
+same_so_far a b c d e f = f ∙ sym (rw (eq-eqb a b e))
+
+pub differ : (a b : ℕ) (d : Bool) → (a ≡ b → ⊥) → false ≡ both (eqb a b) d
+differ a b d n = sym (rw (ne_eqb a b n))
+
+pub first_no : (a b c : Bool) → a ≡ b → a ≡ false → false ≡ both b c
+first_no a b c e z = sym (rw (sym e ∙ z))
+
+pub first_yes : (a b c d : Bool) → a ≡ b → a ≡ true → c ≡ d → c ≡ both b d
+first_yes a b c d e z f = f ∙ sym (rw (sym e ∙ z))
 
 -- ---- told to be the same exactly where they are equal
 
