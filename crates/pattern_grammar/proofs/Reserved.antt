@@ -191,9 +191,9 @@ e_met b t p =
     record {
       outer = λ k. stops_low k (b ∷ 69 ∷ t) (rw p);
       items_there = λ n.
-      let e : bare_of n b ≡ Place b = rw p in
-      subst (λ (u : Token). any_reserved (u.item ∷ items_from (quoted_after false u.item) (is_number u.item) (u.width - 1) (69 ∷ t)) ≡ true)
-      (sym (plain_token n b (69 ∷ t) x.0 x.1 ∙ ap (λ (i : Item). token i 1) e)) refl;
+          let e : bare_of n b ≡ Place b = rw p in
+          subst (λ (u : Token). any_reserved (u.item ∷ items_from (quoted_after false u.item) (is_number u.item) (u.width - 1) (69 ∷ t)) ≡ true)
+          (sym (plain_token n b (69 ∷ t) x.0 x.1 ∙ ap (λ (i : Item). token i 1) e)) refl;
     }
 
 met : {s r : List ℕ} → Bare false s r → Met r → any_reserved (items s) ≡ true

@@ -11,20 +11,20 @@ returns-clause-value c =
     let n = c.place_run-n.result in
     let k = rw c.after-rest.ensures at c.place_run-n.ensures.1 in
     let m = rw c.after-behind.ensures at c.affix_of-x.ensures.1 in rw (
-        c.read_part-shape.ensures,
-        c.count_marks.ensures.0,
-        c.count_marks-2.ensures.0,
-        c.count_marks-3.ensures.0,
-        c.count_marks-4.ensures.0,
-        c.upto-prefix.ensures,
-        c.upto-suffix.ensures,
-        c.upto.ensures,
-        c.affix_of-x.ensures.0,
-        c.after-behind.ensures,
-        c.place_run-n.ensures.0,
-        c.after-rest.ensures,
-        c.affix_of-a.ensures.0,
-      )
+      c.read_part-shape.ensures,
+      c.count_marks.ensures.0,
+      c.count_marks-2.ensures.0,
+      c.count_marks-3.ensures.0,
+      c.count_marks-4.ensures.0,
+      c.upto-prefix.ensures,
+      c.upto-suffix.ensures,
+      c.upto.ensures,
+      c.affix_of-x.ensures.0,
+      c.after-behind.ensures,
+      c.place_run-n.ensures.0,
+      c.after-rest.ensures,
+      c.affix_of-a.ensures.0,
+    )
 
 pub returns-clause-suffix_in_bounds : goal.returns-clause-suffix_in_bounds
 returns-clause-suffix_in_bounds c =
