@@ -13,7 +13,7 @@ fn main() {
         println!("cargo::rustc-link-lib=static=screen");
     } else {
         println!(
-            "cargo::error=the proved library {} is not there: make it with 'rt staticlib screen' in the repository, or name its folder in OKW_LIB_DIR",
+            "cargo::error=the proved library {} is not there: make it with 'make example' in the repository, or name its folder in OKW_LIB_DIR",
             library.display()
         );
     }
