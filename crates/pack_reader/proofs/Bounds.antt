@@ -5,7 +5,7 @@ use mathlib.Core.List.{List, [], ◌∷◌, ◌++◌, map, append-nil}
 use Prim.Native.Nat.{ℕ, suc, ◌+◌, ◌*◌, ◌≤◌, ◌<◌}
 use native.Mathlib.Omega.{arith}
 use lib.ListN.{length, replicate, length-replicate}
-use Rattle.pack_rules.specs.Syntax.{Range, Relation, Rule}
+use Rattle.pack_rules.specs.Syntax.{Relation, Rule}
 use Rattle.pack_token.specs.Token.{tokens}
 use Rattle.pack_token.proofs.Pieces.{placed}
 use Rattle.pack_grammar.specs.Limits.{max_bytes}

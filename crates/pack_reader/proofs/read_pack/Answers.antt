@@ -2,8 +2,7 @@
 use native.Mathlib.Omega.{arith}
 use borrow.Author.Rules.{rules}
 use mathlib.Core.Path.{ap, ◌∙◌}
-use Prim.Native.Nat.{◌-◌}
-use Rattle.pack_reader.specs.Board.{Arrays, arrays_of, last_board}
+use Rattle.pack_reader.specs.Board.{arrays_of, last_board}
 use Rattle.pack_reader.proofs.Boards.{stands_first, stands_last, token_ends, token_less, takes, within_le}
 use Rattle.pack_reader.proofs.Sims.{told}
 use Rattle.pack_reader.proofs.read_pack.Goals as goal

@@ -1,0 +1,47 @@
+-- `check_runs::clause::run_at` takes the run that is kept, or looks for another and keeps it.
+use native.Mathlib.Omega.{arith}
+use Prim.Native.Nat.{ℕ}
+use mathlib.Core.Path.{sym, ap, subst, ◌∙◌}
+use Rattle.pack_rules.specs.Stretch.{single_at, relation_by, table, relation_at}
+use Rattle.pack_rules.specs.declared.Single.{Single}
+use Rattle.check_laws.specs.Seek.{Alike}
+use Rattle.check_laws.specs.Levels.{own_one}
+use Rattle.check_relation.specs.Runs.{tier}
+use Rattle.check_runs.proofs.Keeping.{relation_of, kept_there, kept_set}
+use Rattle.check_runs.proofs.clause.run_at.Goals as goal
+
+pub returns-then-p-end : goal.returns-then-p-end
+returns-then-p-end c =
+    let a = c.args in
+    let p = c.requires in
+    record {
+      alike = kept_there (table a.columns.now a.low.now a.high.now) a.s a.q a.level a.p a.says.now a.stop.now a.k p.kept p.to_le_relation_room.2 c.if-p-end.true;
+      kept_2 = p.kept;
+    }
+
+pub single_at-requires : goal.single_at-requires
+single_at-requires c = c.place_of.ensures.upper_bound
+
+pub own_run-r-requires : goal.own_run-r-requires
+own_run-r-requires c =
+    let a = c.args in
+    let p = c.requires in
+    let T = table a.columns.now a.low.now a.high.now in
+    let e = c.single_at.ensures in
+    record {
+      fit = p.fit;
+      room = p.room;
+      to_le_range_room = (e.to_le_range_room, p.to_le_relation_room.4, p.to_le_relation_room.5 ∙ ap (λ (j : ℕ). tier a.q (relation_at T j)) (sym c.place_of.ensures.value) ∙ ap (λ (s : Single). tier a.q (relation_by a.low.now a.high.now s)) (sym e.value));
+    }
+
+pub returns : goal.returns
+returns c =
+    let a = c.args in
+    let T = table a.columns.now a.low.now a.high.now in
+    let r = c.own_run-r.result in
+    let e = c.single_at.ensures.value ∙ ap (single_at a.columns.now) c.place_of.ensures.value in
+    let f : Alike (own_one a.q a.level (relation_of T a.s a.k)) a.p r.says r.stop = subst (λ (s : Single). Alike (own_one a.q a.level (relation_by a.low.now a.high.now s)) a.p r.says r.stop) e c.own_run-r.ensures.alike in
+    record {
+      alike = f;
+      kept_2 = kept_set T a.s a.q a.level a.p a.says.now a.stop.now a.k r.stop r.says (omega (arith, c.requires.to_le_relation_room.3)) (omega (arith, c.requires.to_le_relation_room.3)) f c.requires.kept;
+    }
