@@ -3,6 +3,8 @@
 // There is a search for each count of zeros at f's end, or one search where that is enough. Crate
 // check_laws has the definitions and their laws (specs/Fast.antt, proofs/Placing.antt, proofs/LeastF.antt).
 // The entries are part_code and alone_of.
+#![tactic(auto)]
+
 ghost use Rattle.std.specs.Prelude.{◌≡◌, false, not, suc, ◌+◌, ◌*◌, ◌%◌, ◌^◌, ◌≤◌, ◌<◌, min};
 ghost use Rattle.number.specs.Limits.{max_places};
 ghost use Rattle.check_laws.specs.Bounded.{bounded};

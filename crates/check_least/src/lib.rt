@@ -3,6 +3,8 @@
 // The first number is tried, then what is asked of the number itself, then the table of crate
 // check_table, in which the work depends on the ranges and not on the window. The entries are
 // least_number, and least_from, which starts no lower than a floor.
+#![tactic(auto)]
+
 mod search;
 
 ghost use Rattle.std.specs.Prelude.{◌≡◌};

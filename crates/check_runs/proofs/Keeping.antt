@@ -1,7 +1,7 @@
 -- A clause's relations by place, the runs that are kept of them, and the run of the clause.
 use mathlib.Core.Path.{◌≡◌, refl, sym, ap, subst, ◌∙◌}
 use mathlib.Core.Bool.{Bool, true, false, not}
-use mathlib.Core.List.{List, [], ◌∷◌, ◌++◌}
+use mathlib.Core.List.{List, ◌∷◌, ◌++◌}
 use mathlib.Core.Logic.{⊎_elim}
 use Prim.Native.Nat.{ℕ, zero, suc, ◌+◌, ◌-◌, ◌%◌, ◌≤◌, ◌<◌, min}
 use native.Mathlib.Omega.{arith}
@@ -17,7 +17,6 @@ use Rattle.decimal.proofs.Choices.{tested}
 use Rattle.decimal.specs.Lists.{all}
 use Rattle.pack_rules.specs.Syntax.{Relation}
 use Rattle.pack_rules.specs.Stretch.{stretch, Table, relation_at}
-use Rattle.pack_rules.proofs.Stretches.{stretch_snoc}
 use Rattle.check_laws.specs.Seek.{Alike}
 use Rattle.check_laws.proofs.Seeking.{split, and_false_left, and_false_right}
 use Rattle.check_laws.specs.Fast.{passes, ends, passes_all}

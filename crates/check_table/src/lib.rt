@@ -4,6 +4,8 @@
 // the level allow and that passes the levels below it. The work depends on the ranges and not on the
 // window. Crate check_next has the table's layout and the next number of it. The entries are build of
 // module level, and find of module find, which searches any window by a table that stands.
+#![tactic(auto)]
+
 pub mod find;
 pub mod level;
 

