@@ -4,6 +4,8 @@
 // Crate check_laws has the definitions (specs/Profile.antt, specs/Floors.antt). A pack's arrays are lent one
 // by one. The entries are fill of module profiled, fill and pair_floors of module floors, and the functions
 // of module ends.
+#![tactic(auto)]
+
 pub mod ends;
 pub mod floors;
 pub mod profiled;

@@ -3,6 +3,8 @@
 // Crate check_laws has the definition and its laws; crate check_clauses looks at each clause once, crate
 // check_search finds the least number of two clauses joined. Below the entry the pack's arrays are lent
 // one by one, with its clauses' profiles and the floors of its long ones. The entry is check.
+#![tactic(auto)]
+
 mod first;
 mod joined;
 

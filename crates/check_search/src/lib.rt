@@ -4,6 +4,8 @@
 // Crate check_laws has the definition, the search that is run and the proof that they agree; crate
 // check_least searches for one number, crate check_fraction for v and f. A pack's arrays are lent one by
 // one. The entries are least_admitted and floors_of.
+#![tactic(auto)]
+
 mod clause;
 
 ghost use Rattle.std.specs.Prelude.{◌≡◌, true, false, ◌^◌, ◌≤◌};
