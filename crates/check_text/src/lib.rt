@@ -1,5 +1,7 @@
 // Checks a pack text: passed, or refusals 20 to 26, or 27 with the first two rules that one admitted
 // number meets and the least such number. The entry is check.
+#![tactic(auto)]
+
 ghost use Rattle.std.specs.Prelude.{◌≡◌};
 ghost use Rattle.check_text.specs.Check.{checked_by, check_pack};
 

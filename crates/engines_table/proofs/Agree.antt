@@ -12,7 +12,7 @@ use Rattle.pack_rules.specs.Held.{Pack, held_rules}
 use Rattle.check_laws.specs.Check.{check_of}
 use Rattle.check_laws.specs.declared.Checked.{Checked}
 use Rattle.check_laws.specs.declared.Checked.TheVariants.{Passes, Clashes}
-use Rattle.engines_table.specs.Same.{same_pair, same_number, same_clash, same_answer}
+use Rattle.engines_table.specs.Same.{same_pair, same_number, same_answer}
 
 -- For every pack, what `check_pairs::check` returns and what `check_plain::check` returns are equal: each is what its contract says.
 pub engines_agree : (p : Pack) (fast plain : Checked) → fast ≡ check_of (held_rules p) → plain ≡ check_of (held_rules p) → fast ≡ plain

@@ -110,7 +110,11 @@ module _ (symbol : Symbol → List ℕ) where
       by : b ≡ 0xE2 → c ≡ 0x80 → d ≡ 0xB0 → AffixText symbol false (b ∷ c ∷ d ∷ s) (rendered symbol (items_from false false 0 (b ∷ c ∷ d ∷ s)))
       by i j k =
           let h : Prints 2 (c ∷ d ∷ s) = ih 2 (rw (j, k)) in
-          rw (i, j, k) (permille_mark (h (rw (i, j, k) at u)))
+          let free : ℕ → ℕ → ℕ → Type 0 = λ x y z. any_reserved (items_from false false 0 (x ∷ y ∷ z ∷ s)) ≡ false in
+          let v : free 0xE2 0x80 0xB0 = subst (free 0xE2 0x80) k (subst (λ (y : ℕ). free 0xE2 y d) j (subst (λ (x : ℕ). free x c d) i u)) in
+          let shown : ℕ → ℕ → ℕ → Type 0 = λ x y z. AffixText symbol false (x ∷ y ∷ z ∷ s) (rendered symbol (items_from false false 0 (x ∷ y ∷ z ∷ s))) in
+          let w : shown 0xE2 0x80 0xB0 = permille_mark (h v) in
+          subst (λ (x : ℕ). shown x c d) (sym i) (subst (λ (y : ℕ). shown 0xE2 y d) (sym j) (subst (shown 0xE2 0x80) (sym k) w))
 
   bare_prints : (b : ℕ) (s : List ℕ) → is_bare b ≡ true → ((k : ℕ) → unquoted k s ≡ true → Prints k s) → Prints 0 (b ∷ s)
   unfolding Prints

@@ -1,13 +1,12 @@
 -- A symbol record without kind 71 prints what it printed before: the same text or the same refusal.
 use mathlib.Core.Path.{◌≡◌, refl, sym, ap, ◌∙◌}
-use mathlib.Core.Bool.{true, false}
-use mathlib.Core.List.{List, [], ◌∷◌, ◌++◌}
-use Prim.Native.Nat.{ℕ, ◌+◌, ◌≤◌, ◌<◌}
+use mathlib.Core.Bool.{false}
+use mathlib.Core.List.{List, [], ◌∷◌}
+use Prim.Native.Nat.{ℕ, ◌+◌, ◌<◌}
 use native.Mathlib.Omega.{arith}
 use borrow.Author.Tests.{ltb-true}
 use lib.Dec.{ltb}
 use lib.ListN.{length, get_or}
-use Rattle.std.specs.Prelude.{if◌then◌else◌}
 use Rattle.decimal.proofs.Choices.{tested, never}
 use Rattle.pattern_token.specs.declared.Mark.{Mark}
 use Rattle.pattern_token.specs.declared.Mark.TheVariants.{Minus as MinusMark, Plus as PlusMark, Percent as PercentMark, Permille as PermilleMark}
@@ -32,7 +31,7 @@ use Rattle.number.specs.declared.Number.{Number}
 use Rattle.number.specs.declared.Reading.{Reading}
 use Rattle.number.specs.declared.Reading.TheVariants.{Is as NumberIs, Refused as NumberRefused}
 use Rattle.number.specs.Reading.{read_number}
-use Rattle.layout.specs.Layout.{whole_digits, zero_digit, group_size, grouped, spelled}
+use Rattle.layout.specs.Layout.{whole_digits, zero_digit, group_size, grouped}
 use Rattle.layout.specs.Text.{symbol_of, render, rendered, part_of, affix_text, affixes_of, minimum_in, number_with, number_text, digits_of, text_of}
 use Rattle.print.specs.Outcome.{after_number, after_pattern, after_symbols, outcome}
 use Rattle.print_grammar.specs.Base.{base_text, base_number, base_pattern, base_judged, base_outcome}

@@ -26,7 +26,7 @@ use Rattle.pattern_reader.specs.declared.PatternReading.TheVariants.{Is}
 use Rattle.pattern_reader.specs.Reading.{places, prefix_len, read_pattern}
 use Rattle.pattern_grammar.specs.NumberPart.{IsPart}
 use Rattle.pattern_grammar.specs.Grammar.{IsAffix, IsSub, IsPattern, one, two}
-use Rattle.pattern_grammar.specs.Texts.{text_at, Affixes}
+use Rattle.pattern_grammar.specs.Texts.{Affixes}
 use Rattle.pattern_grammar.proofs.Affixes.{stops, affix_found}
 use Rattle.pattern_grammar.proofs.Reserved.{plain_items}
 use Rattle.pattern_grammar.proofs.Subpatterns.{ends, read_sub}

@@ -1,6 +1,6 @@
 -- Where group symbols stand: "The primary group is the places after the last comma; the secondary those between the last two, else equal to the primary.";
 -- "Grouping then starts when the integer digits, added zeros included, number at least the primary group plus that value."
-use mathlib.Core.Path.{◌≡◌, refl, sym, ap, ◌∙◌}
+use mathlib.Core.Path.{◌≡◌, refl, ap, ◌∙◌}
 use mathlib.Core.Bool.{true, false}
 use mathlib.Core.List.{List, [], ◌∷◌, ◌++◌, append_assoc}
 use mathlib.Core.Logic.{◌↔◌}
@@ -10,10 +10,9 @@ use native.Mathlib.Nat.{div-add-mod'}
 use borrow.Author.Tests.{lt-ltb, le-ltb, eq-eqb, ne_eqb, eqb-true, eqb-false, ltb-true, ltb-false}
 use lib.Arith.{digits_mod}
 use lib.Dec.{ltb, eqb}
-use lib.ListN.{length, length-append}
+use lib.ListN.{length}
 use Rattle.decimal.proofs.Choices.{tested, not_both}
 use Rattle.layout.specs.Layout.{spell, spelled, mark, group_size, grouped}
-use Rattle.layout.proofs.Writing.{size_few, size_many}
 use Rattle.print_grammar.specs.Digits.{GroupEnds, SymbolStands}
 
 -- ---- behind a digit with `left` digits to come

@@ -1,0 +1,46 @@
+-- `check_pairs::check`: the profiles and floors are filled in, and the pairs in turn are those of the rules that the pack holds.
+use native.Mathlib.Omega.{arith}
+use Rattle.pack_rules.specs.Held.{lent}
+use Rattle.pack_rules.specs.Stretch.{table}
+use Rattle.check_laws.proofs.Flooring.{floored_fresh}
+use Rattle.check_laws.proofs.Holding.{held_is}
+use Rattle.check_laws.proofs.Profiles.{profiled_rules}
+use borrow.Author.Rules.{rules}
+use Rattle.check_pairs.proofs.check.Goals as goal
+
+pub clauses_end-end-requires : goal.clauses_end-end-requires
+clauses_end-end-requires c = omega (arith, c.rule_count-n.ensures)
+
+pub fill-requires : goal.fill-requires
+fill-requires c = c.clauses_end-end.ensures.0
+
+pub fill-requires-2 : goal.fill-requires-2
+fill-requires-2 c =
+    let a = c.args in
+    (c.clauses_end-end.ensures.0, floored_fresh (table a.columns.now a.low.now a.high.now) a.relations.now)
+
+pub first_pair-requires : goal.first_pair-requires
+first_pair-requires c =
+    let a = c.args in
+    let n = c.rule_count-n in
+    let e = c.clauses_end-end in
+    let f = c.fill in
+    record {
+      n_le_rule_room = (omega (arith, n.ensures), c.fill-2.ensures);
+      profiled_rules = profiled_rules (table a.columns.now a.low.now a.high.now) a.relations.now a.clauses.now n.result e.result f.new.profiles f.ensures e.ensures.1;
+    }
+
+pub returns : goal.returns
+returns c =
+    let a = c.args in
+    let n = c.rule_count-n in
+    held_is (lent a.low.now a.high.now a.columns.now a.relations.now a.keyword.now a.clauses.now a.count) n.result c.first_pair.result
+    (record {
+      low = (search rules);
+      high = (search rules);
+      columns = (search rules);
+      relations = (search rules);
+      keyword = (search rules);
+      clauses = (search rules);
+    })
+    n.ensures c.first_pair.ensures
