@@ -2,6 +2,8 @@
 //
 // specs/Lines.antt says what the program writes for a whole input, specs/Stream.antt what it writes of
 // an input in pieces; proofs/Streams.antt shows that this is the same, however the input is cut.
+#![tactic(auto)]
+
 ghost use Rattle.std.specs.Prelude.{◌≡◌, [], ◌∷◌, take};
 ghost use Rattle.decimal.specs.Digits.{numeral};
 ghost use Rattle.area.specs.Area.{Wrote};

@@ -1,8 +1,7 @@
 -- Document 01, "Numbers on the bench card": "Starred ones are shown by proof from the definitions, as rows of a single list under a single claim".
-use Rattle.std.specs.Prelude.{◌≡◌, Bool, false, List, [], ◌∷◌, ℕ}
+use Rattle.std.specs.Prelude.{◌≡◌, false, List, [], ◌∷◌, ℕ}
 use Rattle.answer.specs.declared.Keyword.TheVariants.{Few, Other}
 use Rattle.number.specs.Reading.{read_number}
-use Rattle.number.specs.declared.Number.{Number}
 use Rattle.number.specs.declared.Reading.{Reading}
 use Rattle.number.specs.declared.Reading.TheVariants.{Is}
 use Rattle.select.specs.declared.Selection.{Selection}

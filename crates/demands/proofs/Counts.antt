@@ -1,26 +1,24 @@
 -- A number that meets at most one rule: the order of the rules plays no part in its word.
-use mathlib.Core.Path.{◌≡◌, refl, sym, ap, ◌∙◌, subst}
-use mathlib.Core.Bool.{Bool, true, false}
+use mathlib.Core.Path.{◌≡◌, refl, ap, ◌∙◌, subst}
+use mathlib.Core.Bool.{true}
 use mathlib.Core.List.{List, [], ◌∷◌, ◌++◌, Permᴰ}
-use mathlib.Core.Logic.{◌⊎◌, ⊎_elim}
 use Prim.Native.Nat.{ℕ, zero, suc, ◌+◌, ◌≤◌, ◌<◌}
 use native.Mathlib.Omega.{arith}
-use lib.Dec.{eqb, ltb}
-use borrow.Author.Tests.{eqb-true, eqb-false, eq-eqb, ne_eqb, ltb-true, ltb-false}
-use lib.ListN.{length, get_or}
+use lib.Dec.{eqb}
+use borrow.Author.Tests.{eqb-true, eqb-false, eq-eqb}
+use lib.ListN.{length}
 use Rattle.std.specs.Prelude.{if◌then◌else◌}
-use Rattle.decimal.proofs.Choices.{tested, not_both}
+use Rattle.decimal.proofs.Choices.{tested}
 use Rattle.answer.specs.declared.Keyword.{Keyword}
 use Rattle.answer.specs.declared.Keyword.TheVariants.{Other}
 use Rattle.number.specs.declared.Number.{Number}
 use Rattle.pack_rules.specs.Syntax.{Rule}
 use Rattle.meaning.specs.Meaning.{meets}
-use Rattle.select.specs.Select.{met_by, bit, count_met, first_met, second_met, keyword_at, selection}
+use Rattle.select.specs.Select.{met_by, bit, count_met, first_met, keyword_at, selection}
 use Rattle.select.specs.Words.{MeetsAt}
 use Rattle.select.specs.Words.MeetsAt.{here, there}
-use Rattle.select.specs.declared.Selection.{Selection}
 use Rattle.select.specs.declared.Selection.TheVariants.{Word}
-use Rattle.select.proofs.Chosen.{counted, behind_counted, first_le, first_meets, second_meets}
+use Rattle.select.proofs.Chosen.{counted, first_meets}
 use Rattle.check_laws.specs.Claims.{rule_at}
 
 -- how many rules are met

@@ -4,10 +4,9 @@
 use mathlib.Core.Path.{◌≡◌, refl, sym, ap, ◌∙◌, subst}
 use mathlib.Core.List.{List, [], ◌∷◌, ◌++◌}
 use mathlib.Core.Logic.{◌⊎◌, inl, inr}
-use Prim.Native.Nat.{ℕ, ◌+◌, ◌≤◌, ◌<◌}
+use Prim.Native.Nat.{ℕ, ◌≤◌, ◌<◌}
 use native.Mathlib.Omega.{arith}
 use lib.ListN.{length, drop}
-use Rattle.decimal.proofs.Choices.{never}
 use Rattle.answer.specs.Table.{number_row, pack_row, pattern_row, symbol_row, number_of, figures_of}
 use Rattle.answer.specs.declared.NumberRow.{NumberRow}
 use Rattle.answer.specs.declared.NumberRow.TheVariants.{NumberTooLong, NotANumber, ExponentTooLarge, ExponentAfterZero, IntegerTooLong, FractionTooLong}
@@ -56,7 +55,7 @@ use Rattle.demands.specs.Verdicts.PackVerdict.{too_long, not_a_pack, faulty, rea
 use Rattle.demands.specs.Verdicts.SelectVerdict.{by_pack, by_number, chosen}
 use Rattle.demands.specs.Verdicts.CheckVerdict.{by_pack as check-by-pack, passes, clashes}
 use Rattle.demands.specs.Verdicts.PrintVerdict.{by_symbols, by_pattern, by_number as print-by-number, by_exponent, too_short, prints}
-use Rattle.demands.specs.Comes.{Comes, NumberComes, SelectComes, CheckComes, PrintComes, Within, ZeroOr}
+use Rattle.demands.specs.Comes.{NumberComes, SelectComes, CheckComes, PrintComes, Within, ZeroOr}
 use Rattle.demands.specs.Comes.Comes.{answer, refusal}
 use Rattle.demands.proofs.Given.{number_given, number_found, select_given, select_found, check_given, check_found, print_given, print_found}
 

@@ -3,23 +3,20 @@
 -- `check_text::check` and `select_text::select` cite.
 use mathlib.Core.Path.{◌≡◌, refl, sym, ap, ◌∙◌, subst}
 use mathlib.Core.Bool.{Bool, true, false}
-use mathlib.Core.List.{List, [], ◌∷◌, ◌++◌, map, Permᴰ}
-use mathlib.Core.Logic.{◌↔◌, ◌⊎◌, ⊎_elim}
-use Prim.Native.Nat.{ℕ, zero, suc, ◌+◌, ◌≤◌, ◌<◌}
+use mathlib.Core.List.{List, ◌++◌, map, Permᴰ}
+use mathlib.Core.Logic.{◌↔◌}
+use Prim.Native.Nat.{ℕ, ◌+◌, ◌≤◌, ◌<◌}
 use native.Mathlib.Omega.{arith}
 use lib.Dec.{eqb, ltb}
 use borrow.Author.Tests.{eqb-true, eqb-false, ltb-true, ltb-false}
-use lib.ListN.{length}
 use Rattle.decimal.proofs.Choices.{tested, never}
-use Rattle.answer.specs.declared.Keyword.{Keyword}
 use Rattle.answer.specs.declared.Keyword.TheVariants.{Other}
 use Rattle.answer.specs.declared.Pair.{Pair}
 use Rattle.answer.specs.declared.Witness.{Witness}
-use Rattle.answer.specs.declared.Refusal.{Refusal}
 use Rattle.answer.specs.declared.Refusal.TheVariants.{Rules as OfRules}
 use Rattle.answer.specs.declared.RulesRow.TheVariants.{RulesClash}
 use Rattle.number.specs.Reading.{read_number}
-use Rattle.number.specs.Admitted.{Admitted, number_from}
+use Rattle.number.specs.Admitted.{number_from}
 use Rattle.number.specs.declared.Number.{Number}
 use Rattle.number.specs.declared.Reading.{Reading}
 use Rattle.number.specs.declared.Reading.TheVariants.{Is, Refused as NumberRefused}
@@ -29,23 +26,21 @@ use Rattle.pack_grammar.specs.Reader.{PackAnswer, read_pack, segments}
 use Rattle.pack_grammar.specs.Reader.PackAnswer.{Rules, Refused as PackRefused}
 use Rattle.pack_grammar.specs.Segment.{AreRules, segment_rule}
 use Rattle.pack_grammar.proofs.Shuffle.{perm_rules, rules_are, added_rules as read-added, shuffle as read-shuffle, larger as read-larger}
-use Rattle.meaning.specs.Meaning.{meets}
-use Rattle.select.specs.Select.{met_by, count_met, first_met, second_met, keyword_at, selection}
+use Rattle.select.specs.Select.{met_by, first_met, second_met}
 use Rattle.select.specs.Words.{MeetsAt}
 use Rattle.select.specs.declared.Selection.{Selection}
 use Rattle.select.specs.declared.Selection.TheVariants.{Word}
 use Rattle.select.proofs.Chosen.{counted, behind_counted, first_le, first_meets, second_meets, met_sign}
 use Rattle.check_laws.specs.Check.{number_at, check_of}
-use Rattle.check_laws.specs.Claims.{IsAdmitted, MeetsBoth, Apart, rule_at, AllApart, Lowest, Claims}
+use Rattle.check_laws.specs.Claims.{IsAdmitted, AllApart, Lowest, Claims}
 use Rattle.check_laws.specs.declared.Checked.{Checked}
 use Rattle.check_laws.specs.declared.Checked.TheVariants.{Passes as RulesPass, Clashes}
 use Rattle.check_laws.proofs.Claimed.{check_claims, passes_apart, apart_passes}
-use Rattle.check_text.specs.Check.{checked_by, check_rules, check_pack}
-use Rattle.check_text.specs.declared.PackCheck.{PackCheck}
+use Rattle.check_text.specs.Check.{checked_by, check_pack}
 use Rattle.check_text.specs.declared.PackCheck.TheVariants.{Passes, Refused}
-use Rattle.select_text.specs.Select.{select_number, select_rules, select_of}
+use Rattle.select_text.specs.Select.{select_number, select_of}
 use Rattle.demands.specs.Verdicts.{NumberVerdict, PackVerdict, SelectVerdict}
-use Rattle.demands.specs.Packs.{Passed, Shuffle, Larger, MeetsAdded, Grown}
+use Rattle.demands.specs.Packs.{Passed, Shuffle, Larger, Grown}
 use Rattle.demands.proofs.Given.{number_given, number_found, pack_given, select_given, select_found}
 use Rattle.demands.proofs.Counts.{met, word_met, selected, met_perm, word_perm, met_append, word_append, word_added, word_none, word_of, some_met, at_index, index_at}
 

@@ -8,8 +8,7 @@ use Prim.Native.Nat.{ℕ, ◌+◌, ◌≤◌, ◌<◌}
 use native.Mathlib.Omega.{arith}
 use lib.Dec.{ltb}
 use borrow.Author.Tests.{lt-ltb, le-ltb, ltb-true, ltb-false}
-use lib.ListN.{length, drop}
-use Rattle.std.specs.Prelude.{if◌then◌else◌}
+use lib.ListN.{length}
 use Rattle.decimal.proofs.Choices.{choice, tested, not_both}
 use Rattle.answer.specs.declared.PackRow.{PackRow}
 use Rattle.answer.specs.declared.PackRow.TheVariants.{NotAPack, ValueTooLarge, UnlistedModulus, RangeReversed, BadKeyword, TooMany}
@@ -33,33 +32,27 @@ use Rattle.pack_grammar.specs.Reader.PackAnswer.{Rules, Refused as PackRefused}
 use Rattle.pack_grammar.proofs.Table.{row_20, row_21, rows_22_26, read_rules}
 use Rattle.select.specs.Select.{selection}
 use Rattle.select.specs.declared.Selection.{Selection}
-use Rattle.select.specs.declared.Selection.TheVariants.{Refused as SelectionRefused}
 use Rattle.select.proofs.Chosen.{told, only_told}
 use Rattle.select_text.specs.Select.{select_number, select_rules, select_of}
 use Rattle.check_laws.specs.Check.{check_of}
-use Rattle.check_laws.specs.Claims.{AllApart, Before, Claims, Lowest}
+use Rattle.check_laws.specs.Claims.{Before, Claims, Lowest}
 use Rattle.check_laws.specs.declared.Checked.{Checked}
 use Rattle.check_laws.specs.declared.Checked.TheVariants.{Passes as RulesPass, Clashes}
 use Rattle.check_laws.proofs.Claimed.{check_claims, apart_passes}
 use Rattle.check_text.specs.Check.{checked_by, check_rules, check_pack}
 use Rattle.check_text.specs.declared.PackCheck.{PackCheck}
-use Rattle.check_text.specs.declared.PackCheck.TheVariants.{Passes, Refused as CheckRefused}
 use Rattle.symbols.specs.declared.Symbol.{Symbol}
-use Rattle.symbols.specs.declared.Judged.TheVariants.{Good, Refused as SymbolsRefused}
-use Rattle.symbols.specs.Entries.{symbol_in, standard_record, read_symbols}
+use Rattle.symbols.specs.Entries.{symbol_in, standard_record}
 use Rattle.symbols_grammar.specs.Record.{Verdict as SymbolsVerdict}
 use Rattle.symbols_grammar.proofs.Records.{verdict_given as symbols-given, verdict_found as symbols-found, symbol_is}
 use Rattle.pattern_reader.specs.declared.Pattern.{Pattern}
-use Rattle.pattern_reader.specs.declared.PatternReading.TheVariants.{Is as PatternIs, Refused as PatternRefused}
-use Rattle.pattern_reader.specs.Reading.{read_pattern}
 use Rattle.pattern_grammar.specs.Verdict.{Verdict as PatternVerdict}
 use Rattle.pattern_grammar.proofs.Verdicts.{verdict_given as pattern-given, verdict_found as pattern-found}
 use Rattle.layout.specs.Text.{text_of}
 use Rattle.print_grammar.specs.Text.{PrintedText}
 use Rattle.print.specs.declared.Printed.{Printed}
-use Rattle.print.specs.declared.Printed.TheVariants.{Text, Refused as PrintRefused}
 use Rattle.print.specs.Outcome.{Outcome, outcome, answer_of, area_of}
-use Rattle.print.specs.Outcome.Outcome.{text as ToText, refused as ToRefuse}
+use Rattle.print.specs.Outcome.Outcome.{text as ToText}
 use Rattle.print_grammar.specs.Claims.{Read, Verdict}
 use Rattle.print_grammar.specs.Claims.Verdict.{by_symbols as outcome-by-symbols, by_pattern as outcome-by-pattern, by_number as outcome-by-number, by_exponent as outcome-by-exponent, prints as outcome-prints}
 use Rattle.print_grammar.proofs.Theorems.{verdict_found, verdict_only}

@@ -1,1 +1,2 @@
 // The demands as theorems: see specs and proofs. There is no code here.
+#![tactic(auto)]

@@ -4,6 +4,8 @@
 // how many there are, then they; entries past them keep what they held. No entry needs anything
 // tested first. include/okwazibelu.h has the same entries for C. Crate screen_figures has the code and
 // the figures of an answer; its specs/Figures.antt says which they are.
+#![tactic(auto)]
+
 ghost use Rattle.std.specs.Prelude.{◌≡◌};
 ghost use Rattle.number.specs.Reading.{read_number};
 ghost use Rattle.select_text.specs.Select.{select_of};

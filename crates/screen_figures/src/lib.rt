@@ -4,6 +4,8 @@
 // The figures come in an area of eight: how many there are, then they; entries past them keep what
 // they held. The entries are note_reading, note_selection, note_check and note_printed, one for each
 // job's answer. specs/Figures.antt says which code and which figures an answer has.
+#![tactic(auto)]
+
 ghost use Rattle.std.specs.Prelude.{◌≡◌, [], ◌∷◌, ◌≤◌, min, length, take, set};
 ghost use Rattle.std.proofs.lemmas.List.Edits.{sets};
 ghost use Rattle.answer.specs.Table.{number_of, figures_of};
