@@ -1,21 +1,19 @@
 -- However the input is cut into pieces, the answers are those of the whole input.
-use mathlib.Core.Path.{◌≡◌, refl, sym, ap, ◌∙◌, subst}
+use mathlib.Core.Path.{◌≡◌, refl, sym, ap, ◌∙◌}
 use mathlib.Core.Bool.{Bool, true, false}
-use mathlib.Core.List.{List, [], ◌∷◌, ◌++◌, append_assoc, append-nil}
-use Prim.Native.Nat.{ℕ, zero, suc, ◌+◌, ◌-◌, ◌≤◌, ◌<◌}
+use mathlib.Core.List.{List, [], ◌∷◌, ◌++◌, append-nil}
+use Prim.Native.Nat.{ℕ, suc, ◌+◌, ◌≤◌, ◌<◌}
 use native.Mathlib.Omega.{arith}
-use native.Mathlib.Nat.{add-zero, zero-add, suc-add}
 use native.Mathlib.Numerals.{add-one}
 use lib.Dec.{ltb, eqb}
-use borrow.Author.Tests.{ltb-true, ltb-false, lt-ltb, le-ltb, eqb-true, ne_eqb, eqb-false, eq-eqb}
-use lib.ListN.{length, get_or, take, drop, drop_of_length-le, length-append}
-use lib.Seq.{drop-cons, take-append-le, drop-append-le, drop-append-add, take-append-add, take-length, length-take-le}
-use Rattle.std.specs.Prelude.{if◌then◌else◌}
+use borrow.Author.Tests.{ltb-true, ltb-false, lt-ltb}
+use lib.ListN.{length, take, drop, length-append}
+use lib.Seq.{take-append-le, drop-append-le, drop-append-add, length-take-le}
 use Rattle.decimal.proofs.Choices.{tested, choice, not_both, never}
 use Rattle.decimal.specs.Split.{on_first}
 use Rattle.decimal.proofs.Runs.{nil_of_length}
 use Rattle.decimal.proofs.Splits.{until_le, until_within, until_beyond}
-use Rattle.line.specs.Cuts.{line_length, last_cut, cut_of, max_line}
+use Rattle.line.specs.Cuts.{line_length, cut_of, max_line}
 use Rattle.bench_line.specs.Lines.{lines, unread, answer_to, answers_to, output}
 use Rattle.bench_line.specs.Stream.{cut_answer, pending}
 use Rattle.line.specs.declared.Cut.{Cut}

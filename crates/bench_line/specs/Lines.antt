@@ -1,5 +1,5 @@
 -- Document 01, "The bench program": "Standard input, one job a line [..] A last line needs no LF."
-use Rattle.std.specs.Prelude.{Bool, true, false, List, [], ◌∷◌, ◌++◌, ℕ, ltb, eqb, length, if◌then◌else◌}
+use Rattle.std.specs.Prelude.{List, [], ◌∷◌, ◌++◌, ℕ, ltb, eqb, length, if◌then◌else◌}
 use Rattle.decimal.specs.Digits.{numeral}
 use Rattle.decimal.specs.Split.{on_first}
 use Rattle.answer.specs.Table.{number_of, figures_of}

@@ -2,7 +2,6 @@
 use mathlib.Core.Path.{refl}
 use Rattle.area.proofs.Pieces.{renamed}
 use Rattle.bench_line.proofs.Answers.{answer_of_law, select_text, check_text_law, format_text_law}
-use borrow.Author.Rules.{rules}
 use Rattle.bench_line.proofs.append_job.Goals as goal
 
 pub returns-in-SelectAt : goal.returns-in-SelectAt
@@ -10,12 +9,11 @@ returns-in-SelectAt c =
     let line = c.args.line.now in
     let f = c.after-fields in
     let j = c.read_job-job in
-    let q = (search rules). in
     let u = c.upto in
     let b = c.after in
     let m = c.after-in-SelectAt in
     let t = c.select in
-    renamed (answer_of_law line j.result _ _ j.ensures q.1 (select_text line f.result.now u.result.now b.result.now m.result.now q.0.0 t.result f.ensures u.ensures b.ensures m.ensures t.ensures)) c.append_selection.ensures
+    renamed (answer_of_law line j.result _ _ j.ensures c.in-SelectAt.is (select_text line f.result.now u.result.now b.result.now m.result.now c.in-SelectAt.n t.result f.ensures u.ensures b.ensures m.ensures t.ensures)) c.append_selection.ensures
 
 pub returns-in-CheckAt : goal.returns-in-CheckAt
 returns-in-CheckAt c =
@@ -30,11 +28,10 @@ returns-in-FormatAt c =
     let line = c.args.line.now in
     let f = c.after-fields in
     let j = c.read_job-job in
-    let q = (search rules). in
     let u = c.upto-in-FormatAt in
     let b = c.after-in-FormatAt in
     let m = c.after-in-FormatAt-2 in
-    renamed (answer_of_law line j.result _ _ j.ensures q.1 (format_text_law line f.result.now u.result.now b.result.now m.result.now q.0.0 f.ensures u.ensures b.ensures m.ensures)) c.append_format.ensures
+    renamed (answer_of_law line j.result _ _ j.ensures c.in-FormatAt.is (format_text_law line f.result.now u.result.now b.result.now m.result.now c.in-FormatAt.n f.ensures u.ensures b.ensures m.ensures)) c.append_format.ensures
 
 pub returns-in-Unknown : goal.returns-in-Unknown
 returns-in-Unknown c =

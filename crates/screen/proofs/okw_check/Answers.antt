@@ -8,9 +8,9 @@ pub returns : goal.returns
 returns c =
     record {
       value = (let a = c.args in
-    let r = c.check in
-    told check_code check_figures r.result (check_pack a.pack.now) c.note_check.result c.note_check.new.figures a.figures.now r.ensures c.note_check.ensures.value c.note_check.ensures.figures_after).0;
+          let r = c.check in
+          told check_code check_figures r.result (check_pack a.pack.now) c.note_check.result c.note_check.new.figures a.figures.now r.ensures c.note_check.ensures.value c.note_check.ensures.figures_after).0;
       figures_after = (let a = c.args in
-    let r = c.check in
-    told check_code check_figures r.result (check_pack a.pack.now) c.note_check.result c.note_check.new.figures a.figures.now r.ensures c.note_check.ensures.value c.note_check.ensures.figures_after).1;
+          let r = c.check in
+          told check_code check_figures r.result (check_pack a.pack.now) c.note_check.result c.note_check.new.figures a.figures.now r.ensures c.note_check.ensures.value c.note_check.ensures.figures_after).1;
     }

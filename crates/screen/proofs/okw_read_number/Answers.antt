@@ -8,9 +8,9 @@ pub returns : goal.returns
 returns c =
     record {
       value = (let a = c.args in
-    let r = c.read_number in
-    told read_code read_figures r.result (read_number a.number.now) c.note_reading.result c.note_reading.new.figures a.figures.now r.ensures c.note_reading.ensures.value c.note_reading.ensures.figures_after).0;
+          let r = c.read_number in
+          told read_code read_figures r.result (read_number a.number.now) c.note_reading.result c.note_reading.new.figures a.figures.now r.ensures c.note_reading.ensures.value c.note_reading.ensures.figures_after).0;
       figures_after = (let a = c.args in
-    let r = c.read_number in
-    told read_code read_figures r.result (read_number a.number.now) c.note_reading.result c.note_reading.new.figures a.figures.now r.ensures c.note_reading.ensures.value c.note_reading.ensures.figures_after).1;
+          let r = c.read_number in
+          told read_code read_figures r.result (read_number a.number.now) c.note_reading.result c.note_reading.new.figures a.figures.now r.ensures c.note_reading.ensures.value c.note_reading.ensures.figures_after).1;
     }

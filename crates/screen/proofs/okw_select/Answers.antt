@@ -8,9 +8,9 @@ pub returns : goal.returns
 returns c =
     record {
       value = (let a = c.args in
-    let r = c.select in
-    told select_code select_figures r.result (select_of a.pack.now a.number.now) c.note_selection.result c.note_selection.new.figures a.figures.now r.ensures c.note_selection.ensures.value c.note_selection.ensures.figures_after).0;
+          let r = c.select in
+          told select_code select_figures r.result (select_of a.pack.now a.number.now) c.note_selection.result c.note_selection.new.figures a.figures.now r.ensures c.note_selection.ensures.value c.note_selection.ensures.figures_after).0;
       figures_after = (let a = c.args in
-    let r = c.select in
-    told select_code select_figures r.result (select_of a.pack.now a.number.now) c.note_selection.result c.note_selection.new.figures a.figures.now r.ensures c.note_selection.ensures.value c.note_selection.ensures.figures_after).1;
+          let r = c.select in
+          told select_code select_figures r.result (select_of a.pack.now a.number.now) c.note_selection.result c.note_selection.new.figures a.figures.now r.ensures c.note_selection.ensures.value c.note_selection.ensures.figures_after).1;
     }

@@ -9,16 +9,16 @@ pub returns-in-Word : goal.returns-in-Word
 returns-in-Word c =
     record {
       value = (let a = c.args in
-    told select_code select_figures _ a.selection c.note_one.result c.note_one.new.figures a.figures.now (sym c.in-Word.is) c.note_one.ensures.value (c.note_one.ensures.figures_after ∙ ap (λ n. noted (n ∷ []) a.figures.now) c.word_number.ensures)).0;
+          told select_code select_figures _ a.selection c.note_one.result c.note_one.new.figures a.figures.now (sym c.in-Word.is) c.note_one.ensures.value (c.note_one.ensures.figures_after ∙ ap (λ n. noted (n ∷ []) a.figures.now) c.word_number.ensures)).0;
       figures_after = (let a = c.args in
-    told select_code select_figures _ a.selection c.note_one.result c.note_one.new.figures a.figures.now (sym c.in-Word.is) c.note_one.ensures.value (c.note_one.ensures.figures_after ∙ ap (λ n. noted (n ∷ []) a.figures.now) c.word_number.ensures)).1;
+          told select_code select_figures _ a.selection c.note_one.result c.note_one.new.figures a.figures.now (sym c.in-Word.is) c.note_one.ensures.value (c.note_one.ensures.figures_after ∙ ap (λ n. noted (n ∷ []) a.figures.now) c.word_number.ensures)).1;
     }
 
 pub returns-in-Refused : goal.returns-in-Refused
 returns-in-Refused c =
     record {
       value = (let a = c.args in
-    told select_code select_figures _ a.selection c.note_refusal.result c.note_refusal.new.figures a.figures.now (sym c.in-Refused.is) c.note_refusal.ensures.value c.note_refusal.ensures.figures_after).0;
+          told select_code select_figures _ a.selection c.note_refusal.result c.note_refusal.new.figures a.figures.now (sym c.in-Refused.is) c.note_refusal.ensures.value c.note_refusal.ensures.figures_after).0;
       figures_after = (let a = c.args in
-    told select_code select_figures _ a.selection c.note_refusal.result c.note_refusal.new.figures a.figures.now (sym c.in-Refused.is) c.note_refusal.ensures.value c.note_refusal.ensures.figures_after).1;
+          told select_code select_figures _ a.selection c.note_refusal.result c.note_refusal.new.figures a.figures.now (sym c.in-Refused.is) c.note_refusal.ensures.value c.note_refusal.ensures.figures_after).1;
     }
