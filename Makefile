@@ -3,14 +3,15 @@
 # example: builds the library and runs the C program of c/example.c.
 # pack FILE=..: checks a language pack from a file, and shows what is wrong with it and where.
 # bench: times of the library and of ordinary Rust, side by side; SECTION=check (or read_number, select, print) for one section alone.
-# test: the gate, which proves every crate from nothing, holds the files to their layout, tries the edits that must fail and runs the programs;
+# test: the gate, which proves every crate that it has not passed on this machine, holds the files to their layout, tries the edits that must fail
+#   and runs the programs;
 #   then what links the library: the tries from C and the comparison with ordinary Rust. OKW_ROUNDS sets how long the comparison is.
 SHELL := /bin/bash
 .SHELLFLAGS := -eu -o pipefail -c
 .PHONY: demo example pack bench test linked
 
 SCREEN := target/staticlib/libscreen.a
-SOURCES := crates.txt $(shell find crates -name '*.rt' -o -name '*.antt')
+SOURCES := crates.txt $(shell find crates -name out -prune -o \( -name '*.rt' -o -name '*.antt' \) -print)
 CARGO := cargo --offline --quiet
 RUST := --release --manifest-path rust/Cargo.toml
 CC_FLAGS := -std=c11 -O2 -Wall -Wextra -Werror -Iinclude
