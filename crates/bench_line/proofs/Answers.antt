@@ -1,4 +1,6 @@
 -- Laws of an answer's pieces.
+use Rattle.std.specs.Prelude.{Err, Ok, Result}
+use Rattle.answer.specs.declared.Keyword.{Keyword}
 use mathlib.Core.Path.{◌≡◌, sym, ap, subst, ◌∙◌}
 use mathlib.Core.Bool.{true, false}
 use mathlib.Core.List.{List, [], ◌∷◌, ◌++◌}
@@ -13,18 +15,14 @@ use Rattle.line.specs.Jobs.{job_at, job_of}
 use Rattle.bench_line.specs.Lines.{spaced, refusal_text, selection_text, check_text, max_output, printed_text, format_text, job_text, job_answer}
 use Rattle.line.specs.declared.JobCut.{JobCut}
 use Rattle.line.specs.declared.JobCut.TheVariants.{SelectAt, CheckAt, FormatAt}
-use Rattle.select.specs.declared.Selection.{Selection}
 use Rattle.answer.specs.declared.Refusal.{Refusal}
 use Rattle.answer.specs.declared.Refusal.TheVariants.{Print as OfPrint}
 use Rattle.answer.specs.declared.PrintRow.TheVariants.{AreaTooShort}
 use Rattle.print.specs.Outcome.{Outcome, outcome, answer_of, area_of}
 use Rattle.print.specs.Outcome.Outcome.{text, refused}
-use Rattle.print.specs.declared.Printed.{Printed}
-use Rattle.print.specs.declared.Printed.TheVariants.{Text, Refused as PrintRefused}
 use Rattle.decimal.proofs.Choices.{tested, never}
 use Rattle.select_text.specs.Select.{select_of}
 use Rattle.check_text.specs.Check.{check_pack}
-use Rattle.check_text.specs.declared.PackCheck.{PackCheck}
 
 -- the figures that are left: one and the rest, or none
 pub spaced_next : (vs : List ℕ) (n k : ℕ) → k < n → k < length vs
@@ -40,12 +38,12 @@ pub answer_of_law : (line : List ℕ) (r c : JobCut) (written : List ℕ) → jo
 answer_of_law line r c written e q t = t ∙ ap job_text (sym (ap (job_at (drop 2 line)) q) ∙ e)
 
 -- the text of a selection from the line's fields
-pub select_text : (line fields pack behind number : List ℕ) (n : ℕ) (s : Selection) → fields ≡ drop 2 line → pack ≡ take n fields → behind ≡ drop n fields → number ≡ drop 1 behind
+pub select_text : (line fields pack behind number : List ℕ) (n : ℕ) (s : Result Keyword Refusal) → fields ≡ drop 2 line → pack ≡ take n fields → behind ≡ drop n fields → number ≡ drop 1 behind
     → s ≡ select_of pack number → selection_text s ≡ job_text (job_at (drop 2 line) (SelectAt n))
 select_text line fields pack behind number n s f p b m e = rw (e, p, m, b, f, drop-drop 1 n (drop 2 line))
 
 -- and of a check
-pub check_text_law : (line fields : List ℕ) (c : PackCheck) → fields ≡ drop 2 line → c ≡ check_pack fields → check_text c ≡ job_text (job_at (drop 2 line) CheckAt)
+pub check_text_law : (line fields : List ℕ) (c : Result (Unit {0}) Refusal) → fields ≡ drop 2 line → c ≡ check_pack fields → check_text c ≡ job_text (job_at (drop 2 line) CheckAt)
 check_text_law line fields c f e = rw (e, f)
 
 -- and of a printed number
@@ -54,23 +52,23 @@ pub format_text_law : (line fields pattern behind number : List ℕ) (n : ℕ) �
 format_text_law line fields pattern behind number n f p b m = rw (p, m, b, f, drop-drop 1 n (drop 2 line))
 
 -- what stands in the program's output area is the text, where the printer says so
-pub text_answer : (o : Outcome) (area : List ℕ) (n : ℕ) (r : Printed) → length area ≡ max_output → r ≡ answer_of o area → r ≡ Text n → printed_text (take n (area_of o area)) ≡ format_text o
+pub text_answer : (o : Outcome) (area : List ℕ) (n : ℕ) (r : Result ℕ Refusal) → length area ≡ max_output → r ≡ answer_of o area → r ≡ Ok n → printed_text (take n (area_of o area)) ≡ format_text o
 text_answer (refused f) area n r l e t = never (cc)
 text_answer (text s) area n r l e t = tested (ltb (length area) (length s)) long short
   where
     long : ltb (length area) (length s) ≡ true → printed_text (take n (area_of (text s) area)) ≡ format_text (text s)
     long k =
-        let q : r ≡ PrintRefused (OfPrint (AreaTooShort (length s))) = rw k at e in
+        let q : r ≡ Err (OfPrint (AreaTooShort (length s))) = rw k at e in
         never (cc)
 
     short : ltb (length area) (length s) ≡ false → printed_text (take n (area_of (text s) area)) ≡ format_text (text s)
     short k =
-        let q : r ≡ Text (length s) = rw k at e in
+        let q : r ≡ Ok (length s) = rw k at e in
         let same : length s ≡ n = cc in
         let m : ltb max_output (length s) ≡ false = subst (λ (x : ℕ). ltb x (length s) ≡ false) l k in
         rw (k, m, take_at s (drop (length s) area) n same)
 
-pub refused_answer : (o : Outcome) (area : List ℕ) (f : Refusal) (r : Printed) → length area ≡ max_output → r ≡ answer_of o area → r ≡ PrintRefused f → refusal_text 102 f ≡ format_text o
+pub refused_answer : (o : Outcome) (area : List ℕ) (f : Refusal) (r : Result ℕ Refusal) → length area ≡ max_output → r ≡ answer_of o area → r ≡ Err f → refusal_text 102 f ≡ format_text o
 refused_answer (refused g) area f r l e t =
     let same : f ≡ g = cc in
     ap (refusal_text 102) same
@@ -78,12 +76,12 @@ refused_answer (text s) area f r l e t = tested (ltb (length area) (length s)) l
   where
     long : ltb (length area) (length s) ≡ true → refusal_text 102 f ≡ format_text (text s)
     long k =
-        let q : r ≡ PrintRefused (OfPrint (AreaTooShort (length s))) = rw k at e in
+        let q : r ≡ Err (OfPrint (AreaTooShort (length s))) = rw k at e in
         let same : f ≡ OfPrint (AreaTooShort (length s)) = cc in
         let m : ltb max_output (length s) ≡ true = subst (λ (x : ℕ). ltb x (length s) ≡ true) l k in
         rw (m, same)
 
     short : ltb (length area) (length s) ≡ false → refusal_text 102 f ≡ format_text (text s)
     short k =
-        let q : r ≡ Text (length s) = rw k at e in
+        let q : r ≡ Ok (length s) = rw k at e in
         never (cc)

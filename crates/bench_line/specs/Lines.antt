@@ -1,21 +1,17 @@
 -- Document 01, "The bench program": "Standard input, one job a line [..] A last line needs no LF."
-use Rattle.std.specs.Prelude.{List, [], ◌∷◌, ◌++◌, ℕ, ltb, eqb, length, if◌then◌else◌}
+use Rattle.std.specs.Prelude.{Err, Ok, Result, List, [], ◌∷◌, ◌++◌, ℕ, ltb, eqb, length, if◌then◌else◌}
 use Rattle.decimal.specs.Digits.{numeral}
 use Rattle.decimal.specs.Split.{on_first}
 use Rattle.answer.specs.Table.{number_of, figures_of}
 use Rattle.answer.specs.Words.{spelling}
 use Rattle.answer.specs.declared.Keyword.{Keyword}
 use Rattle.answer.specs.declared.Refusal.{Refusal}
-use Rattle.select.specs.declared.Selection.{Selection}
-use Rattle.select.specs.declared.Selection.TheVariants.{Word, Refused}
 use Rattle.answer.specs.declared.Refusal.TheVariants.{Print as OfPrint}
 use Rattle.answer.specs.declared.PrintRow.TheVariants.{AreaTooShort}
 use Rattle.print.specs.Outcome.{Outcome, outcome}
 use Rattle.print.specs.Outcome.Outcome.{text, refused}
 use Rattle.select_text.specs.Select.{select_of}
 use Rattle.check_text.specs.Check.{check_pack}
-use Rattle.check_text.specs.declared.PackCheck.{PackCheck}
-use Rattle.check_text.specs.declared.PackCheck.TheVariants.{Passes, Refused as PackRefused}
 use Rattle.line.specs.Cuts.{max_line}
 use Rattle.line.specs.Jobs.{Job, job_of}
 use Rattle.line.specs.Jobs.Job.{select, check, format, none}
@@ -42,14 +38,14 @@ refusal_text letter r = ((letter ∷ 33 ∷ []) ++ spaced (number_of r ∷ figur
 abbrev pub word_text : Keyword → List ℕ
 word_text k = ((115 ∷ 32 ∷ []) ++ spelling k) ++ (10 ∷ [])
 
-abbrev pub selection_text : Selection → List ℕ
-selection_text (Word k) = word_text k
-selection_text (Refused r) = refusal_text 115 r
+abbrev pub selection_text : Result Keyword Refusal → List ℕ
+selection_text (Ok k) = word_text k
+selection_text (Err r) = refusal_text 115 r
 
 -- "A passed pack prints `c ok`."
-abbrev pub check_text : PackCheck → List ℕ
-check_text Passes = 99 ∷ 32 ∷ 111 ∷ 107 ∷ 10 ∷ []
-check_text (PackRefused r) = refusal_text 99 r
+abbrev pub check_text : Result (Unit {0}) Refusal → List ℕ
+check_text (Ok tt) = 99 ∷ 32 ∷ 111 ∷ 107 ∷ 10 ∷ []
+check_text (Err r) = refusal_text 99 r
 
 -- "The program's output area has 2,048 bytes."
 abbrev pub max_output : ℕ

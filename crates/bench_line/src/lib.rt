@@ -12,11 +12,8 @@ ghost use Rattle.bench_line.specs.Stream.{cut_answer};
 ghost use Rattle.print.specs.Outcome.{outcome};
 
 use answer::{FigureList, Keyword, MAX_FIGURES, Refusal};
-use check_text::PackCheck;
 use decimal::num::wide_byte;
 use line::{JobCut, MAX_LINE, read_job};
-use print::Printed;
-use select::Selection;
 
 // Appends `? ` and a number.
 fn append_unread(out: &mut [u8], at: usize, n: u64) -> usize
@@ -74,21 +71,21 @@ fn append_word(out: &mut [u8], at: usize, k: Keyword) -> usize
     area::put(out, end, 10)
 }
 
-fn append_selection(out: &mut [u8], at: usize, s: Selection) -> usize
+fn append_selection(out: &mut [u8], at: usize, s: Result<Keyword, Refusal>) -> usize
     ensures { Wrote out.old at (selection_text s) out.new result }
 {
     match s {
-        Selection::Word(k) => append_word(out, at, k),
-        Selection::Refused(refusal) => append_refusal(out, at, 115, refusal),
+        Ok(k) => append_word(out, at, k),
+        Err(refusal) => append_refusal(out, at, 115, refusal),
     }
 }
 
-fn append_check(out: &mut [u8], at: usize, c: PackCheck) -> usize
+fn append_check(out: &mut [u8], at: usize, c: Result<(), Refusal>) -> usize
     ensures { Wrote out.old at (check_text c) out.new result }
 {
     match c {
-        PackCheck::Passes => area::append(out, at, b"c ok\n"),
-        PackCheck::Refused(refusal) => append_refusal(out, at, 99, refusal),
+        Ok(()) => area::append(out, at, b"c ok\n"),
+        Err(refusal) => append_refusal(out, at, 99, refusal),
     }
 }
 
@@ -108,8 +105,8 @@ fn append_format(out: &mut [u8], at: usize, pattern: &[u8], number: &[u8]) -> us
     let mut text = [0u8; 2048];
     let printed = print::print(b"", pattern, number, &mut text);
     match printed {
-        Printed::Text(n) => append_text(out, at, decimal::cut::upto(&text, n)),
-        Printed::Refused(refusal) => append_refusal(out, at, 102, refusal),
+        Ok(n) => append_text(out, at, decimal::cut::upto(&text, n)),
+        Err(refusal) => append_refusal(out, at, 102, refusal),
     }
 }
 

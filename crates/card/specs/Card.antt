@@ -1,23 +1,21 @@
 -- Document 01, "Numbers on the bench card": "Starred ones are shown by proof from the definitions, as rows of a single list under a single claim".
-use Rattle.std.specs.Prelude.{◌≡◌, false, List, [], ◌∷◌, ℕ}
+use Rattle.answer.specs.declared.Keyword.{Keyword}
+use Rattle.number.specs.declared.Number.{Number}
+use Rattle.answer.specs.declared.Refusal.{Refusal}
+use Rattle.std.specs.Prelude.{Err, Ok, Result, ◌≡◌, false, List, [], ◌∷◌, ℕ}
 use Rattle.answer.specs.declared.Keyword.TheVariants.{Few, Other}
 use Rattle.number.specs.Reading.{read_number}
-use Rattle.number.specs.declared.Reading.{Reading}
-use Rattle.number.specs.declared.Reading.TheVariants.{Is}
-use Rattle.select.specs.declared.Selection.{Selection}
-use Rattle.select.specs.declared.Selection.TheVariants.{Word}
 use Rattle.answer.specs.declared.Refusal.TheVariants.{Rules as OfRules}
 use Rattle.answer.specs.declared.RulesRow.TheVariants.{RulesClash}
 use Rattle.check_text.specs.Check.{check_pack}
-use Rattle.check_text.specs.declared.PackCheck.TheVariants.{Passes, Refused}
 use Rattle.select_text.specs.Select.{select_of}
 use Rattle.print.specs.Outcome.{outcome}
 use Rattle.print.specs.Outcome.Outcome.{text}
 
 -- A row of the card: what is asked, and the answer that the card gives.
 pub data Row : Type 0 where
-  operands : (number : List ℕ) → Reading → Row
-  word : (pack number : List ℕ) → Selection → Row
+  operands : (number : List ℕ) → Result Number Refusal → Row
+  word : (pack number : List ℕ) → Result Keyword Refusal → Row
   passed : (pack : List ℕ) → Row
   clash : (pack : List ℕ) (first second e v i f : ℕ) → Row
   prints : (pattern number shown : List ℕ) → Row
@@ -26,8 +24,8 @@ pub data Row : Type 0 where
 abbrev pub Right : Row → Type 0
 Right (operands number r) = read_number number ≡ r
 Right (word pack number s) = select_of pack number ≡ s
-Right (passed pack) = check_pack pack ≡ Passes
-Right (clash pack first second e v i f) = check_pack pack ≡ Refused (OfRules (RulesClash (record { first = first; second = second }) (record { e = e; v = record { 0 = v }; i = i; f = record { 0 = f } })))
+Right (passed pack) = check_pack pack ≡ Ok tt
+Right (clash pack first second e v i f) = check_pack pack ≡ Err (OfRules (RulesClash (record { first = first; second = second }) (record { e = e; v = record { 0 = v }; i = i; f = record { 0 = f } })))
 Right (prints pattern number shown) = outcome [] pattern number ≡ text shown
 
 abbrev pub All : List Row → Type 0
@@ -35,9 +33,9 @@ All [] = Unit {0}
 All (row ∷ rows) = Right row × All rows
 
 -- a positive number with these operands, in the order of the card
-abbrev pub positive : ℕ → ℕ → ℕ → ℕ → ℕ → ℕ → Reading
+abbrev pub positive : ℕ → ℕ → ℕ → ℕ → ℕ → ℕ → Result Number Refusal
 positive i v w f t e =
-    Is (record {
+    Ok (record {
       negative = false;
       e = e;
       i = i;
@@ -74,9 +72,9 @@ rows =
     -- "1.0: i 1, v 1, f 0"
     ∷ operands (49 ∷ 46 ∷ 48 ∷ []) (positive 1 1 0 0 0 0)
     -- "`one: i = 1 and v = 0`: [..] 1.0 other"
-    ∷ word (111 ∷ 110 ∷ 101 ∷ 58 ∷ 32 ∷ 105 ∷ 32 ∷ 61 ∷ 32 ∷ 49 ∷ 32 ∷ 97 ∷ 110 ∷ 100 ∷ 32 ∷ 118 ∷ 32 ∷ 61 ∷ 32 ∷ 48 ∷ []) (49 ∷ 46 ∷ 48 ∷ []) (Word Other)
+    ∷ word (111 ∷ 110 ∷ 101 ∷ 58 ∷ 32 ∷ 105 ∷ 32 ∷ 61 ∷ 32 ∷ 49 ∷ 32 ∷ 97 ∷ 110 ∷ 100 ∷ 32 ∷ 118 ∷ 32 ∷ 61 ∷ 32 ∷ 48 ∷ []) (49 ∷ 46 ∷ 48 ∷ []) (Ok Other)
     -- "`one: n = 1; few: n = 2..4`: 3.0 few, passes"
-    ∷ word few_pack (51 ∷ 46 ∷ 48 ∷ []) (Word Few)
+    ∷ word few_pack (51 ∷ 46 ∷ 48 ∷ []) (Ok Few)
     ∷ passed few_pack
     -- "`one: n = 1; few: n % 10 = 1..3`: 27, pair 1 2, 0 0 1 0"
     ∷ clash tens_pack 1 2 0 0 1 0

@@ -10,25 +10,20 @@ use check_laws::Checked;
 use pack_rules::{ClauseEnds, Columns, Keywords, RangeEnds, RuleEnds};
 use pack_verdict::Read;
 
-#[derive(Clone, Copy)]
-pub enum PackCheck {
-    Passes,
-    Refused(Refusal),
-}
 
-fn checked_by(c: Checked) -> PackCheck
+fn checked_by(c: Checked) -> Result<(), Refusal>
     ensures { result ≡ checked_by c }
 {
     match c {
-        Checked::Passes => PackCheck::Passes,
-        Checked::Clashes(pair, x) => PackCheck::Refused(Refusal::Rules(RulesRow::RulesClash(
+        Checked::Passes => Ok(()),
+        Checked::Clashes(pair, x) => Err(Refusal::Rules(RulesRow::RulesClash(
             pair, x,
         ))),
     }
 }
 
 // A pack that has to be read, into arrays that stand here and are lent from here.
-fn check_read(pack: &[u8]) -> PackCheck
+fn check_read(pack: &[u8]) -> Result<(), Refusal>
     ensures { result ≡ check_pack pack.now }
 {
     let mut low: RangeEnds = [0; 2048];
@@ -47,19 +42,19 @@ fn check_read(pack: &[u8]) -> PackCheck
         &mut clauses,
     );
     match read {
-        Read::Rules(count) => checked_by(check_pairs::check(
+        Ok(count) => checked_by(check_pairs::check(
             &columns, &low, &high, &relations, &keyword, &clauses, count,
         )),
-        Read::Refused(refusal) => PackCheck::Refused(refusal),
+        Err(refusal) => Err(refusal),
     }
 }
 
 // The pack that is `other:` alone has no two rules to meet, and passes unread.
-pub fn check(pack: &[u8]) -> PackCheck
+pub fn check(pack: &[u8]) -> Result<(), Refusal>
     ensures { result ≡ check_pack pack.now }
 {
     if pack_bare::is_bare(pack) {
-        return PackCheck::Passes;
+        return Ok(());
     }
     check_read(pack)
 }

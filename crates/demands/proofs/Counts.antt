@@ -7,7 +7,7 @@ use native.Mathlib.Omega.{arith}
 use lib.Dec.{eqb}
 use borrow.Author.Tests.{eqb-true, eqb-false, eq-eqb}
 use lib.ListN.{length}
-use Rattle.std.specs.Prelude.{if◌then◌else◌}
+use Rattle.std.specs.Prelude.{Ok, if◌then◌else◌}
 use Rattle.decimal.proofs.Choices.{tested}
 use Rattle.answer.specs.declared.Keyword.{Keyword}
 use Rattle.answer.specs.declared.Keyword.TheVariants.{Other}
@@ -17,7 +17,6 @@ use Rattle.meaning.specs.Meaning.{meets}
 use Rattle.select.specs.Select.{met_by, bit, count_met, first_met, keyword_at, selection}
 use Rattle.select.specs.Words.{MeetsAt}
 use Rattle.select.specs.Words.MeetsAt.{here, there}
-use Rattle.select.specs.declared.Selection.TheVariants.{Word}
 use Rattle.select.proofs.Chosen.{counted, first_meets}
 use Rattle.check_laws.specs.Claims.{rule_at}
 
@@ -51,13 +50,13 @@ module _ (x : Number) where
       rw e (word_none rs (omega arith)))
 
   -- a number that meets at most one rule has the word of that rule, or `other`
-  pub selected : (rules : List Rule) → met rules x ≤ 1 → selection rules x ≡ Word (word_met rules x)
+  pub selected : (rules : List Rule) → met rules x ≤ 1 → selection rules x ≡ Ok (word_met rules x)
   selected rules h =
       tested (eqb (met rules x) 0) (λ e. rw (e, word_none rules (eqb-true (met rules x) 0 e)))
       (λ e.
       let n = eqb-false (met rules x) 0 e in
       let o : met rules x ≡ 1 = omega arith in
-      rw (e, eq-eqb (met rules x) 1 o) (ap Word (word_first rules (omega arith))))
+      rw (e, eq-eqb (met rules x) 1 o) (ap Ok (word_first rules (omega arith))))
 
   -- a rule that is met gives the word, where at most one is
   pub word_of : {rs : List Rule} {k : ℕ} {w : Keyword} → MeetsAt x rs k w → met rs x ≤ 1 → word_met rs x ≡ w

@@ -1,6 +1,9 @@
 -- Demand 1: "Any bytes may arrive. Every entry ends with an answer or a refusal of document 01's table, with the figures the table names, no
 -- precondition for the caller, and the output area untouched by a refusal." The contracts of crates/screen/src/lib.rt equate the code, all figures and
 -- the whole area with the definitions named here, for any bytes and without a `requires`.
+use Rattle.std.specs.Prelude.{Err, Ok, Result}
+use Rattle.pattern_reader.specs.declared.Pattern.{Pattern}
+use Rattle.answer.specs.declared.Keyword.{Keyword}
 use mathlib.Core.Path.{◌≡◌, refl, sym, ap, ◌∙◌, subst}
 use mathlib.Core.List.{List, [], ◌∷◌, ◌++◌}
 use mathlib.Core.Logic.{◌⊎◌, inl, inr}
@@ -22,29 +25,17 @@ use Rattle.answer.specs.declared.RulesRow.TheVariants.{TwoRulesMet, RulesClash}
 use Rattle.answer.specs.declared.PrintRow.TheVariants.{PrintedExponent, AreaTooShort}
 use Rattle.number.specs.Reading.{read_number}
 use Rattle.number.specs.declared.Number.{Number as Operands}
-use Rattle.number.specs.declared.Reading.{Reading}
-use Rattle.number.specs.declared.Reading.TheVariants.{Is as NumberIs, Refused as NumberRefused}
 use Rattle.pack_rules.specs.Syntax.{Rule}
 use Rattle.pack_grammar.specs.Reader.{PackAnswer, row_of}
 use Rattle.pack_grammar.specs.Reader.PackAnswer.{Rules, Refused as PackRefused}
 use Rattle.select.specs.Words.{Chosen}
 use Rattle.select.specs.Words.Chosen.{none, one, two}
-use Rattle.select.specs.declared.Selection.{Selection}
-use Rattle.select.specs.declared.Selection.TheVariants.{Word, Refused as SelectionRefused}
 use Rattle.select_text.specs.Select.{select_of}
 use Rattle.check_text.specs.Check.{check_pack}
-use Rattle.check_text.specs.declared.PackCheck.{PackCheck}
-use Rattle.check_text.specs.declared.PackCheck.TheVariants.{Passes, Refused as CheckRefused}
-use Rattle.symbols.specs.declared.Judged.{Judged}
-use Rattle.symbols.specs.declared.Judged.TheVariants.{Good, Refused as SymbolsRefused}
 use Rattle.symbols_grammar.specs.Record.{Verdict as SymbolsVerdict}
 use Rattle.symbols_grammar.specs.Record.Verdict.{no_record, symbol_twice, bad_body, good}
-use Rattle.pattern_reader.specs.declared.PatternReading.{PatternReading}
-use Rattle.pattern_reader.specs.declared.PatternReading.TheVariants.{Is as PatternIs, Refused as PatternRefused}
 use Rattle.pattern_grammar.specs.Verdict.{Verdict as PatternVerdict}
 use Rattle.pattern_grammar.specs.Verdict.Verdict.{too_long as long-pattern, not_utf8, reserved, not_a_pattern, many_places_law, large_step, many_marks_law, other_marks, read as read-pattern}
-use Rattle.print.specs.declared.Printed.{Printed}
-use Rattle.print.specs.declared.Printed.TheVariants.{Text, Refused as PrintRefused}
 use Rattle.print.specs.Outcome.{outcome, answer_of, area_of}
 use Rattle.print_grammar.proofs.Theorems.{area_kept}
 use Rattle.screen_figures.specs.Figures.{noted, operands_of, word_number, read_code, read_figures, select_code, select_figures, check_code, check_figures, print_code, print_figures}
@@ -64,34 +55,34 @@ use Rattle.demands.proofs.Given.{number_given, number_found, select_given, selec
 pub number_comes : (s : List ℕ) → NumberComes s (read_code (read_number s)) (read_figures (read_number s))
 number_comes s = by (read_number s) (number_found s)
   where
-    by : (x : Reading) → NumberVerdict s x → NumberComes s (read_code x) (read_figures x)
-    by (NumberIs x) v = answer (operands_of x) (x, (v, refl))
-    by (NumberRefused r) v = refusal r v
+    by : (x : Result Number Refusal) → NumberVerdict s x → NumberComes s (read_code x) (read_figures x)
+    by (Ok x) v = answer (operands_of x) (x, (v, refl))
+    by (Err r) v = refusal r v
 
 pub select_comes : (pack number : List ℕ) → SelectComes pack number (select_code (select_of pack number)) (select_figures (select_of pack number))
 select_comes pack number = by (select_of pack number) (select_found pack number)
   where
-    by : (c : Selection) → SelectVerdict pack number c → SelectComes pack number (select_code c) (select_figures c)
-    by (Word k) v = answer (word_number k ∷ []) (k, (v, refl))
-    by (SelectionRefused r) v = refusal r v
+    by : (c : Result Keyword Refusal) → SelectVerdict pack number c → SelectComes pack number (select_code c) (select_figures c)
+    by (Ok k) v = answer (word_number k ∷ []) (k, (v, refl))
+    by (Err r) v = refusal r v
 
 pub check_comes : (pack : List ℕ) → CheckComes pack (check_code (check_pack pack)) (check_figures (check_pack pack))
 check_comes pack = by (check_pack pack) (check_found pack)
   where
-    by : (c : PackCheck) → CheckVerdict pack c → CheckComes pack (check_code c) (check_figures c)
-    by Passes v = answer [] (v, refl)
-    by (CheckRefused r) v = refusal r v
+    by : (c : Result (Unit {0}) Refusal) → CheckVerdict pack c → CheckComes pack (check_code c) (check_figures c)
+    by (Ok tt) v = answer [] (v, refl)
+    by (Err r) v = refusal r v
 
 -- .. "and the output area untouched by a refusal"
 pub print_comes : (house s t area : List ℕ)
     → PrintComes house s t area (area_of (outcome house s t) area) (print_code (answer_of (outcome house s t) area)) (print_figures (answer_of (outcome house s t) area))
 print_comes house s t area = by (answer_of (outcome house s t) area) refl
   where
-    by : (r : Printed) → answer_of (outcome house s t) area ≡ r → PrintComes house s t area (area_of (outcome house s t) area) (print_code r) (print_figures r)
-    by (Text n) e = answer (n ∷ []) (n, (subst (λ (r : Printed). PrintVerdict house s t area r (area_of (outcome house s t) area)) e (print_found house s t area), refl))
-    by (PrintRefused r) e =
+    by : (r : Result ℕ Refusal) → answer_of (outcome house s t) area ≡ r → PrintComes house s t area (area_of (outcome house s t) area) (print_code r) (print_figures r)
+    by (Ok n) e = answer (n ∷ []) (n, (subst (λ (r : Result ℕ Refusal). PrintVerdict house s t area r (area_of (outcome house s t) area)) e (print_found house s t area), refl))
+    by (Err r) e =
         let k = area_kept (outcome house s t) area r e in
-        let v = subst (λ (r : Printed). PrintVerdict house s t area r (area_of (outcome house s t) area)) e (print_found house s t area) in
+        let v = subst (λ (r : Result ℕ Refusal). PrintVerdict house s t area r (area_of (outcome house s t) area)) e (print_found house s t area) in
         refusal r (rw k at v, k)
 
 -- ---- .. and nothing else comes
@@ -182,37 +173,37 @@ pub number_noted : (s before : List ℕ) → length before ≡ 8
     → let fs = read_figures (read_number s) in noted fs before ≡ (length fs ∷ fs) ++ drop (length (length fs ∷ fs)) before
 number_noted s before h = noted_front (read_figures (read_number s)) before h (few (read_number s))
   where
-    few : (x : Reading) → length (read_figures x) ≤ 7
-    few (NumberIs x) = omega arith
-    few (NumberRefused r) = figures_few r
+    few : (x : Result Number Refusal) → length (read_figures x) ≤ 7
+    few (Ok x) = omega arith
+    few (Err r) = figures_few r
 
 pub select_noted : (pack number before : List ℕ) → length before ≡ 8
     → let fs = select_figures (select_of pack number) in noted fs before ≡ (length fs ∷ fs) ++ drop (length (length fs ∷ fs)) before
 select_noted pack number before h = noted_front (select_figures (select_of pack number)) before h (few (select_of pack number))
   where
-    few : (c : Selection) → length (select_figures c) ≤ 7
-    few (Word k) = omega arith
-    few (SelectionRefused r) = figures_few r
+    few : (c : Result Keyword Refusal) → length (select_figures c) ≤ 7
+    few (Ok k) = omega arith
+    few (Err r) = figures_few r
 
 pub check_noted : (pack before : List ℕ) → length before ≡ 8
     → let fs = check_figures (check_pack pack) in noted fs before ≡ (length fs ∷ fs) ++ drop (length (length fs ∷ fs)) before
 check_noted pack before h = noted_front (check_figures (check_pack pack)) before h (few (check_pack pack))
   where
-    few : (c : PackCheck) → length (check_figures c) ≤ 7
-    few Passes = omega arith
-    few (CheckRefused r) = figures_few r
+    few : (c : Result (Unit {0}) Refusal) → length (check_figures c) ≤ 7
+    few (Ok tt) = omega arith
+    few (Err r) = figures_few r
 
 pub print_noted : (house s t area before : List ℕ) → length before ≡ 8
     → let fs = print_figures (answer_of (outcome house s t) area) in noted fs before ≡ (length fs ∷ fs) ++ drop (length (length fs ∷ fs)) before
 print_noted house s t area before h = noted_front (print_figures (answer_of (outcome house s t) area)) before h (few (answer_of (outcome house s t) area))
   where
-    few : (r : Printed) → length (print_figures r) ≤ 7
-    few (Text n) = omega arith
-    few (PrintRefused r) = figures_few r
+    few : (r : Result ℕ Refusal) → length (print_figures r) ≤ 7
+    few (Ok n) = omega arith
+    few (Err r) = figures_few r
 
 -- ---- which rows an entry has
 
-number_row_law : {s : List ℕ} {x : Reading} → NumberVerdict s x → ZeroOr (Within 10 15 (read_code x)) (read_code x)
+number_row_law : {s : List ℕ} {x : Result Number Refusal} → NumberVerdict s x → ZeroOr (Within 10 15 (read_code x)) (read_code x)
 number_row_law (row r h) = inr (number_rows r)
 number_row_law (read p h) = inl refl
 
@@ -233,10 +224,10 @@ pack_row_law (read-pack rules t) = inl refl
 of_pack : {s : List ℕ} {r : Refusal} → PackVerdict s (PackRefused r) → Within 20 26 (number_of r)
 of_pack {s} {r} v = not_zero r (pack_row_law v)
 
-of_number : {s : List ℕ} {r : Refusal} → NumberVerdict s (NumberRefused r) → Within 10 15 (number_of r)
+of_number : {s : List ℕ} {r : Refusal} → NumberVerdict s (Err r) → Within 10 15 (number_of r)
 of_number {s} {r} v = not_zero r (number_row_law v)
 
-chosen_row : {x : Operands} {rules : List Rule} {c : Selection} → Chosen x rules c → (select_code c ≡ 0) ⊎ (select_code c ≡ 27)
+chosen_row : {x : Operands} {rules : List Rule} {c : Result Keyword Refusal} → Chosen x rules c → (select_code c ≡ 0) ⊎ (select_code c ≡ 27)
 chosen_row (none f) = inl refl
 chosen_row (one k w m f) = inl refl
 chosen_row (two a b w u m n h f) = inr refl
@@ -249,7 +240,7 @@ select_codes pack number = by (select_found pack number)
     met (inl e) = inl e
     met (inr e) = inr (inr (omega arith, omega arith))
 
-    by : {c : Selection} → SelectVerdict pack number c → ZeroOr (Within 10 15 (select_code c) ⊎ Within 20 27 (select_code c)) (select_code c)
+    by : {c : Result Keyword Refusal} → SelectVerdict pack number c → ZeroOr (Within 10 15 (select_code c) ⊎ Within 20 27 (select_code c)) (select_code c)
     by (by_pack r p) = let k = of_pack p in inr (inr (k.0, omega (arith, k.1)))
     by (by_number rules r p n) = inr (inl (of_number n))
     by (chosen rules x c p n h) = met (chosen_row h)
@@ -257,29 +248,29 @@ select_codes pack number = by (select_found pack number)
 pub check_codes : (pack : List ℕ) → ZeroOr (Within 20 27 (check_code (check_pack pack))) (check_code (check_pack pack))
 check_codes pack = by (check_found pack)
   where
-    by : {c : PackCheck} → CheckVerdict pack c → ZeroOr (Within 20 27 (check_code c)) (check_code c)
+    by : {c : Result (Unit {0}) Refusal} → CheckVerdict pack c → ZeroOr (Within 20 27 (check_code c)) (check_code c)
     by (check-by-pack r p) = let k = of_pack p in inr (k.0, omega (arith, k.1))
     by (passes rules p h) = inl refl
     by (clashes rules i j pair x p a b l) = inr (omega arith, omega arith)
 
-abbrev symbols_code : Judged → ℕ
-symbols_code Good = 0
-symbols_code (SymbolsRefused r) = number_of r
+abbrev symbols_code : Result (Unit {0}) Refusal → ℕ
+symbols_code (Ok tt) = 0
+symbols_code (Err r) = number_of r
 
-symbols_row : {s : List ℕ} {j : Judged} → SymbolsVerdict s j → ZeroOr (Within 40 41 (symbols_code j)) (symbols_code j)
+symbols_row : {s : List ℕ} {j : Result (Unit {0}) Refusal} → SymbolsVerdict s j → ZeroOr (Within 40 41 (symbols_code j)) (symbols_code j)
 symbols_row (no_record f) = inr (omega arith, omega arith)
 symbols_row (symbol_twice es w t) = inr (omega arith, omega arith)
 symbols_row (bad_body es w t e a n) = inr (omega arith, omega arith)
 symbols_row (good es w t f) = inl refl
 
-of_symbols : {s : List ℕ} {r : Refusal} → SymbolsVerdict s (SymbolsRefused r) → Within 40 41 (number_of r)
+of_symbols : {s : List ℕ} {r : Refusal} → SymbolsVerdict s (Err r) → Within 40 41 (number_of r)
 of_symbols {s} {r} v = not_zero r (symbols_row v)
 
-abbrev pattern_code : PatternReading → ℕ
-pattern_code (PatternIs p) = 0
-pattern_code (PatternRefused r) = number_of r
+abbrev pattern_code : Result Pattern Refusal → ℕ
+pattern_code (Ok p) = 0
+pattern_code (Err r) = number_of r
 
-pattern_row_law : {s : List ℕ} {x : PatternReading} → PatternVerdict s x → ZeroOr (Within 30 36 (pattern_code x)) (pattern_code x)
+pattern_row_law : {s : List ℕ} {x : Result Pattern Refusal} → PatternVerdict s x → ZeroOr (Within 30 36 (pattern_code x)) (pattern_code x)
 pattern_row_law (long-pattern h) = inr (omega arith, omega arith)
 pattern_row_law (not_utf8 h u) = inr (omega arith, omega arith)
 pattern_row_law (reserved h u a) = inr (omega arith, omega arith)
@@ -290,14 +281,14 @@ pattern_row_law (many_marks_law w p e) = inr (omega arith, omega arith)
 pattern_row_law (other_marks w p e) = inr (omega arith, omega arith)
 pattern_row_law (read-pattern w p m o) = inl refl
 
-of_pattern : {s : List ℕ} {r : Refusal} → PatternVerdict s (PatternRefused r) → Within 30 36 (number_of r)
+of_pattern : {s : List ℕ} {r : Refusal} → PatternVerdict s (Err r) → Within 30 36 (number_of r)
 of_pattern {s} {r} v = not_zero r (pattern_row_law v)
 
 pub print_codes : (house s t area : List ℕ)
     → let c = print_code (answer_of (outcome house s t) area) in ZeroOr (Within 10 15 c ⊎ Within 30 36 c ⊎ Within 40 41 c ⊎ Within 50 51 c) c
 print_codes house s t area = by (print_found house s t area)
   where
-    by : {r : Printed} {after : List ℕ} → PrintVerdict house s t area r after
+    by : {r : Result ℕ Refusal} {after : List ℕ} → PrintVerdict house s t area r after
         → ZeroOr (Within 10 15 (print_code r) ⊎ Within 30 36 (print_code r) ⊎ Within 40 41 (print_code r) ⊎ Within 50 51 (print_code r)) (print_code r)
     by (by_symbols r y) = inr (inr (inr (inl (of_symbols y))))
     by (by_pattern r y p) = inr (inr (inl (of_pattern p)))

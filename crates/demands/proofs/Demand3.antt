@@ -1,6 +1,9 @@
 -- Demand 3: "The pack check passes exactly when no admitted number meets two rules; otherwise it names the first pair and the least number. Shuffling
 -- a passed pack changes no answer; adding rules changes only words that were "other"." Stated on bytes, over the definitions that the contracts of
 -- `check_text::check` and `select_text::select` cite.
+use Rattle.std.specs.Prelude.{Err, Ok, Result}
+use Rattle.answer.specs.declared.Keyword.{Keyword}
+use Rattle.answer.specs.declared.Refusal.{Refusal}
 use mathlib.Core.Path.{◌≡◌, refl, sym, ap, ◌∙◌, subst}
 use mathlib.Core.Bool.{Bool, true, false}
 use mathlib.Core.List.{List, ◌++◌, map, Permᴰ}
@@ -18,8 +21,6 @@ use Rattle.answer.specs.declared.RulesRow.TheVariants.{RulesClash}
 use Rattle.number.specs.Reading.{read_number}
 use Rattle.number.specs.Admitted.{number_from}
 use Rattle.number.specs.declared.Number.{Number}
-use Rattle.number.specs.declared.Reading.{Reading}
-use Rattle.number.specs.declared.Reading.TheVariants.{Is, Refused as NumberRefused}
 use Rattle.number.proofs.Admissible.{admitted, four_numbers}
 use Rattle.pack_rules.specs.Syntax.{Rule}
 use Rattle.pack_grammar.specs.Reader.{PackAnswer, read_pack, segments}
@@ -28,8 +29,6 @@ use Rattle.pack_grammar.specs.Segment.{AreRules, segment_rule}
 use Rattle.pack_grammar.proofs.Shuffle.{perm_rules, rules_are, added_rules as read-added, shuffle as read-shuffle, larger as read-larger}
 use Rattle.select.specs.Select.{met_by, first_met, second_met}
 use Rattle.select.specs.Words.{MeetsAt}
-use Rattle.select.specs.declared.Selection.{Selection}
-use Rattle.select.specs.declared.Selection.TheVariants.{Word}
 use Rattle.select.proofs.Chosen.{counted, behind_counted, first_le, first_meets, second_meets, met_sign}
 use Rattle.check_laws.specs.Check.{number_at, check_of}
 use Rattle.check_laws.specs.Claims.{IsAdmitted, AllApart, Lowest, Claims}
@@ -37,7 +36,6 @@ use Rattle.check_laws.specs.declared.Checked.{Checked}
 use Rattle.check_laws.specs.declared.Checked.TheVariants.{Passes as RulesPass, Clashes}
 use Rattle.check_laws.proofs.Claimed.{check_claims, passes_apart, apart_passes}
 use Rattle.check_text.specs.Check.{checked_by, check_pack}
-use Rattle.check_text.specs.declared.PackCheck.TheVariants.{Passes, Refused}
 use Rattle.select_text.specs.Select.{select_number, select_of}
 use Rattle.demands.specs.Verdicts.{NumberVerdict, PackVerdict, SelectVerdict}
 use Rattle.demands.specs.Packs.{Passed, Shuffle, Larger, Grown}
@@ -49,7 +47,7 @@ use Rattle.demands.proofs.Counts.{met, word_met, selected, met_perm, word_perm, 
 passing : (pack : List ℕ) (rules : List Rule) → read_pack pack ≡ Rules rules → Passed pack ↔ AllApart rules
 passing pack rules e = (λ p. passes_apart rules (unchecked (check_of rules) (rw e at p)), λ h. rw (e, apart_passes rules h))
   where
-    unchecked : (c : Checked) → checked_by c ≡ Passes → c ≡ RulesPass
+    unchecked : (c : Checked) → checked_by c ≡ Ok tt → c ≡ RulesPass
     unchecked RulesPass q = refl
     unchecked (Clashes pair x) q = never (cc)
 
@@ -59,22 +57,22 @@ passes_exactly pack rules v = passing pack rules (pack_given pack v)
 -- ---- (b) "the pair named is met by a single admitted number, every other such pair comes later, the number named meets both, and every other number that
 -- does comes later"
 
-pub names_the_first : (pack : List ℕ) (rules : List Rule) (pair : Pair) (x : Witness) → PackVerdict pack (Rules rules) → check_pack pack ≡ Refused (OfRules (RulesClash pair x))
+pub names_the_first : (pack : List ℕ) (rules : List Rule) (pair : Pair) (x : Witness) → PackVerdict pack (Rules rules) → check_pack pack ≡ Err (OfRules (RulesClash pair x))
     → (i : ℕ) × (j : ℕ) × (pair.first ≡ 1 + i) × (pair.second ≡ 1 + j) × Lowest rules i j x
 names_the_first pack rules pair x v c = subst (Claims 1 rules) (clashed (check_of rules) (rw (pack_given pack v) at c)) (check_claims rules)
   where
-    clashed : (r : Checked) → checked_by r ≡ Refused (OfRules (RulesClash pair x)) → r ≡ Clashes pair x
+    clashed : (r : Checked) → checked_by r ≡ Err (OfRules (RulesClash pair x)) → r ≡ Clashes pair x
     clashed RulesPass q = never (cc)
     clashed (Clashes p y) q = cc
 
 -- a pack that is read and does not pass gets 27: no other refusal is left
-pub else_27 : (pack : List ℕ) (rules : List Rule) → PackVerdict pack (Rules rules) → (Passed pack → ⊥) → (pair : Pair) × ((x : Witness) × (check_pack pack ≡ Refused (OfRules (RulesClash pair x))))
+pub else_27 : (pack : List ℕ) (rules : List Rule) → PackVerdict pack (Rules rules) → (Passed pack → ⊥) → (pair : Pair) × ((x : Witness) × (check_pack pack ≡ Err (OfRules (RulesClash pair x))))
 else_27 pack rules v n = by (check_of rules) refl
   where
     e : read_pack pack ≡ Rules rules
     e = pack_given pack v
 
-    by : (c : Checked) → check_of rules ≡ c → (pair : Pair) × ((x : Witness) × (check_pack pack ≡ Refused (OfRules (RulesClash pair x))))
+    by : (c : Checked) → check_of rules ≡ c → (pair : Pair) × ((x : Witness) × (check_pack pack ≡ Err (OfRules (RulesClash pair x))))
     by RulesPass q = absurd (n (rw (e, q)))
     by (Clashes pair x) q = (pair, (x, rw (e, q)))
 
@@ -97,7 +95,7 @@ apart_of_few rules h i j l b w m =
     omega (arith, h w m.admitted, behind_counted (number_at w) q (omega (arith, first_le (number_at w) p)))
 
 -- the number that any text is read as
-read_few : (rules : List Rule) → AllApart rules → (s : List ℕ) (n : Number) → read_number s ≡ Is n → met rules n ≤ 1
+read_few : (rules : List Rule) → AllApart rules → (s : List ℕ) (n : Number) → read_number s ≡ Ok n → met rules n ≤ 1
 read_few rules h s n e =
     subst (λ (m : Number). met rules m ≤ 1) (sym (four_numbers s n e))
     (signed n.negative (few rules h (record { e = n.e; v = n.v; i = n.i; f = n.f }) (admitted s n e)))
@@ -113,15 +111,15 @@ passed_rules pack p = by (read_pack pack) refl
     by : (a : PackAnswer) → read_pack pack ≡ a → (rules : List Rule) × ((read_pack pack ≡ Rules rules) × AllApart rules)
     by (Rules rules) e = (rules, (e, (passing pack rules e).0 p))
     by (PackRefused f) e =
-        let q : Refused f ≡ Passes = rw e at p in
+        let q : Err f ≡ (Ok tt) = rw e at p in
         never (cc)
 
 -- ---- (c) "every shuffle of a passed pack passes, and selection answers the same under both for any bytes as the number, refused numbers included"
 
-same_words : (rs qs : List Rule) → Permᴰ rs qs → AllApart rs → AllApart qs → (s : List ℕ) (r : Reading) → read_number s ≡ r → select_number qs r ≡ select_number rs r
-same_words rs qs d h k s (Is n) e =
-    selected n qs (read_few qs k s n e) ∙ ap Word (sym (word_perm n d (read_few rs h s n e))) ∙ sym (selected n rs (read_few rs h s n e))
-same_words rs qs d h k s (NumberRefused f) e = refl
+same_words : (rs qs : List Rule) → Permᴰ rs qs → AllApart rs → AllApart qs → (s : List ℕ) (r : Result Number Refusal) → read_number s ≡ r → select_number qs r ≡ select_number rs r
+same_words rs qs d h k s (Ok n) e =
+    selected n qs (read_few qs k s n e) ∙ ap Ok (sym (word_perm n d (read_few rs h s n e))) ∙ sym (selected n rs (read_few rs h s n e))
+same_words rs qs d h k s (Err f) e = refl
 
 same_shuffled : (pack other : List ℕ) → Shuffle pack other → Passed pack → Passed other × ((number : List ℕ) → select_of other number ≡ select_of pack number)
 same_shuffled pack other d p =
@@ -135,7 +133,7 @@ same_shuffled pack other d p =
 
 -- what is due under the pack, by the table and demand 2, is what is answered under the shuffle
 pub shuffled : (pack other : List ℕ) → Shuffle pack other → Passed pack
-    → Passed other × ((number : List ℕ) (c : Selection) → SelectVerdict pack number c → select_of other number ≡ c)
+    → Passed other × ((number : List ℕ) (c : Result Keyword Refusal) → SelectVerdict pack number c → select_of other number ≡ c)
 shuffled pack other d p = let s = same_shuffled pack other d p in (s.0, λ number c v. s.1 number ∙ select_given pack number v)
 
 -- ---- (d) "if a larger pack passes too, every admitted number keeps its word, except that one which had "other" and meets an added rule has that rule's word"
@@ -155,45 +153,45 @@ grown smaller added larger number rules d r p q =
     (by a.0 b.0 a.1.0 b.1.0 a.1.1 b.1.1 (read-larger smaller larger added a.0 b.0 d a.1.0 b.1.0) (read_number number) refl)
   where
     by : (rs qs : List Rule) → read_pack smaller ≡ Rules rs → read_pack larger ≡ Rules qs → AllApart rs → AllApart qs → Permᴰ (rs ++ map segment_rule added) qs
-        → (r : Reading) → read_number number ≡ r → Grown smaller larger number (map segment_rule added)
-    by rs qs e f h k dr (NumberRefused g) n =
+        → (r : Result Number Refusal) → read_number number ≡ r → Grown smaller larger number (map segment_rule added)
+    by rs qs e f h k dr (Err g) n =
         record {
           named = λ j w m.
-              let z : NumberRefused g ≡ Is m.operands = sym n ∙ number_given number m.number_read in
+              let z : Err g ≡ Ok m.operands = sym n ∙ number_given number m.number_read in
               never (cc);
           kept = λ m c v.
               let same : select_of larger number ≡ select_of smaller number = rw (e, f, n) in
               same ∙ select_given smaller number v;
         }
-    by rs qs e f h k dr (Is x) n =
+    by rs qs e f h k dr (Ok x) n =
         let mr = read_few rs h number x n in
         let mq = read_few qs k number x n in
         let both-few : met (rs ++ map segment_rule added) x ≤ 1 = rw (met_perm x dr) mq in
         let sum = met_append x rs (map segment_rule added) in
-        let word-q : select_of larger number ≡ Word (word_met (rs ++ map segment_rule added) x) = rw (f, n) (selected x qs mq ∙ ap Word (sym (word_perm x dr both-few))) in
-        let word-r : select_of smaller number ≡ Word (word_met rs x) = rw (e, n) (selected x rs mr) in
+        let word-q : select_of larger number ≡ Ok (word_met (rs ++ map segment_rule added) x) = rw (f, n) (selected x qs mq ∙ ap Ok (sym (word_perm x dr both-few))) in
+        let word-r : select_of smaller number ≡ Ok (word_met rs x) = rw (e, n) (selected x rs mr) in
         record {
           named = λ j w m.
               let same : m.operands ≡ x = read_as (sym (number_given number m.number_read) ∙ n) in
               let at = subst (λ (y : Number). MeetsAt y (map segment_rule added) j w) same m.meets_it in
               let none : met rs x ≡ 0 = omega (arith, sum, both-few, counted x at) in
-              word-q ∙ ap Word (word_added x rs (map segment_rule added) none ∙ word_of x at (omega (arith, sum, both-few)));
+              word-q ∙ ap Ok (word_added x rs (map segment_rule added) none ∙ word_of x at (omega (arith, sum, both-few)));
           kept = λ m c v.
               (tested (eqb (met rs x) 0)
               (λ z.
               let none = eqb-true (met rs x) 0 z in
               let other : word_met rs x ≡ Other = word_none x rs none in
               tested (eqb (met (map segment_rule added) x) 0)
-              (λ y. word-q ∙ ap Word (word_added x rs (map segment_rule added) none ∙ word_none x (map segment_rule added) (eqb-true (met (map segment_rule added) x) 0 y) ∙ sym other) ∙ sym word-r)
+              (λ y. word-q ∙ ap Ok (word_added x rs (map segment_rule added) none ∙ word_none x (map segment_rule added) (eqb-true (met (map segment_rule added) x) 0 y) ∙ sym other) ∙ sym word-r)
               (λ y.
               let s = some_met x (map segment_rule added) (pos (eqb-false (met (map segment_rule added) x) 0 y)) in
-              absurd (m s.0 (word_met (map segment_rule added) x) (record { had_other = subst (SelectVerdict smaller number) (word-r ∙ ap Word other) (select_found smaller number); operands = x; number_read = subst (NumberVerdict number) n (number_found number); meets_it = s.1 }))))
-              (λ z. word-q ∙ ap Word (word_append x rs (map segment_rule added) (pos (eqb-false (met rs x) 0 z))) ∙ sym word-r))
+              absurd (m s.0 (word_met (map segment_rule added) x) (record { had_other = subst (SelectVerdict smaller number) (word-r ∙ ap Ok other) (select_found smaller number); operands = x; number_read = subst (NumberVerdict number) n (number_found number); meets_it = s.1 }))))
+              (λ z. word-q ∙ ap Ok (word_append x rs (map segment_rule added) (pos (eqb-false (met rs x) 0 z))) ∙ sym word-r))
               ∙ select_given smaller number v;
         }
       where
         pos : {m : ℕ} → (m ≡ 0 → ⊥) → 0 < m
         pos {m} g = omega arith
 
-        read_as : {y : Number} → Is y ≡ Is x → y ≡ x
+        read_as : {y : Number} → Ok y ≡ Ok x → y ≡ x
         read_as q = cc

@@ -1,5 +1,7 @@
 -- The verdicts of specs/Verdicts.antt are those of the definitions that the entries' contracts cite: `..-given`, no other verdict can be had, and
 -- `..-found`, one always is.
+use Rattle.std.specs.Prelude.{Err, Ok, Result}
+use Rattle.answer.specs.declared.Keyword.{Keyword}
 use mathlib.Core.Path.{◌≡◌, refl, sym, ap, ◌∙◌, subst, fun_ext}
 use mathlib.Core.Bool.{Bool, true, false}
 use mathlib.Core.List.{List, []}
@@ -19,8 +21,6 @@ use Rattle.answer.specs.declared.Refusal.{Refusal}
 use Rattle.answer.specs.declared.Refusal.TheVariants.{Number, PackTooLong, Pack, Rules as OfRules, Pattern as OfPattern, Symbols, Print as OfPrint}
 use Rattle.number.specs.Reading.{read_number}
 use Rattle.number.specs.declared.Number.{Number as Operands}
-use Rattle.number.specs.declared.Reading.{Reading}
-use Rattle.number.specs.declared.Reading.TheVariants.{Is as NumberIs, Refused as NumberRefused}
 use Rattle.number.proofs.Table.{Told, given_if, read_if, told as number-told}
 use Rattle.number.proofs.Table.Told.{row as told-row, number as told-number}
 use Rattle.pack_rules.specs.Syntax.{Rule}
@@ -31,7 +31,6 @@ use Rattle.pack_grammar.specs.Reader.Fault.{None, At}
 use Rattle.pack_grammar.specs.Reader.PackAnswer.{Rules, Refused as PackRefused}
 use Rattle.pack_grammar.proofs.Table.{row_20, row_21, rows_22_26, read_rules}
 use Rattle.select.specs.Select.{selection}
-use Rattle.select.specs.declared.Selection.{Selection}
 use Rattle.select.proofs.Chosen.{told, only_told}
 use Rattle.select_text.specs.Select.{select_number, select_rules, select_of}
 use Rattle.check_laws.specs.Check.{check_of}
@@ -40,7 +39,6 @@ use Rattle.check_laws.specs.declared.Checked.{Checked}
 use Rattle.check_laws.specs.declared.Checked.TheVariants.{Passes as RulesPass, Clashes}
 use Rattle.check_laws.proofs.Claimed.{check_claims, apart_passes}
 use Rattle.check_text.specs.Check.{checked_by, check_rules, check_pack}
-use Rattle.check_text.specs.declared.PackCheck.{PackCheck}
 use Rattle.symbols.specs.declared.Symbol.{Symbol}
 use Rattle.symbols.specs.Entries.{symbol_in, standard_record}
 use Rattle.symbols_grammar.specs.Record.{Verdict as SymbolsVerdict}
@@ -50,7 +48,6 @@ use Rattle.pattern_grammar.specs.Verdict.{Verdict as PatternVerdict}
 use Rattle.pattern_grammar.proofs.Verdicts.{verdict_given as pattern-given, verdict_found as pattern-found}
 use Rattle.layout.specs.Text.{text_of}
 use Rattle.print_grammar.specs.Text.{PrintedText}
-use Rattle.print.specs.declared.Printed.{Printed}
 use Rattle.print.specs.Outcome.{Outcome, outcome, answer_of, area_of}
 use Rattle.print.specs.Outcome.Outcome.{text as ToText}
 use Rattle.print_grammar.specs.Claims.{Read, Verdict}
@@ -66,7 +63,7 @@ use Rattle.demands.specs.Verdicts.PrintVerdict.{by_symbols, by_pattern, by_numbe
 
 -- ---- numbers
 
-pub number_given : (s : List ℕ) {r : Reading} → NumberVerdict s r → read_number s ≡ r
+pub number_given : (s : List ℕ) {r : Result Number Refusal} → NumberVerdict s r → read_number s ≡ r
 number_given s (row r h) = given_if r s h
 number_given s (read p h) = read_if s p h
 
@@ -141,7 +138,7 @@ pack_found s = by (read_pack s) refl
 
 -- ---- selection
 
-pub select_given : (pack number : List ℕ) {c : Selection} → SelectVerdict pack number c → select_of pack number ≡ c
+pub select_given : (pack number : List ℕ) {c : Result Keyword Refusal} → SelectVerdict pack number c → select_of pack number ≡ c
 select_given pack number (by_pack r p) = rw (pack_given pack p)
 select_given pack number (by_number rules r p n) = rw (pack_given pack p, number_given number n)
 select_given pack number (chosen rules x c p n h) = rw (pack_given pack p, number_given number n) (sym (only_told x rules c h))
@@ -149,10 +146,10 @@ select_given pack number (chosen rules x c p n h) = rw (pack_given pack p, numbe
 pub select_found : (pack number : List ℕ) → SelectVerdict pack number (select_of pack number)
 select_found pack number = by_answer (read_pack pack) refl
   where
-    by_reading : (rules : List Rule) → read_pack pack ≡ Rules rules → (r : Reading) → read_number number ≡ r → SelectVerdict pack number (select_number rules r)
-    by_reading rules e (NumberIs x) k =
+    by_reading : (rules : List Rule) → read_pack pack ≡ Rules rules → (r : Result Number Refusal) → read_number number ≡ r → SelectVerdict pack number (select_number rules r)
+    by_reading rules e (Ok x) k =
         chosen rules x (selection rules x) (subst (PackVerdict pack) e (pack_found pack)) (subst (NumberVerdict number) k (number_found number)) (told x rules)
-    by_reading rules e (NumberRefused r) k =
+    by_reading rules e (Err r) k =
         by_number rules r (subst (PackVerdict pack) e (pack_found pack)) (subst (NumberVerdict number) k (number_found number))
 
     by_answer : (a : PackAnswer) → read_pack pack ≡ a → SelectVerdict pack number (select_rules a (read_number number))
@@ -226,7 +223,7 @@ module _ (rules : List Rule) where
       paired m n f g =
           ap (λ (a : ℕ). Clashes (record { first = a; second = m.second }) x) f ∙ ap (λ (b : ℕ). Clashes (record { first = n.first; second = b }) x) g
 
-pub check_given : (pack : List ℕ) {c : PackCheck} → CheckVerdict pack c → check_pack pack ≡ c
+pub check_given : (pack : List ℕ) {c : Result (Unit {0}) Refusal} → CheckVerdict pack c → check_pack pack ≡ c
 check_given pack (check-by-pack r p) = rw (pack_given pack p)
 check_given pack (passes rules p h) = rw (pack_given pack p, apart_passes rules h)
 check_given pack (clashes rules i j pair x p a b l) = rw (pack_given pack p) (ap checked_by (lowest_only rules i j pair x a b l (check_of rules) (check_claims rules)))
@@ -252,7 +249,7 @@ module _ (house s t area : List ℕ) where
       sym (verdict_only house s t (outcome-prints p n x w.no_exponent))
       ∙ ap ToText (sym ((printed_text s t p n x.pattern x.number (symbol_in house standard_record) text).0 (subst (λ (f : Symbol → List ℕ). PrintedText f s p n text) e w.is_text)))
 
-  pub print_given : {r : Printed} {after : List ℕ} → PrintVerdict house s t area r after
+  pub print_given : {r : Result ℕ Refusal} {after : List ℕ} → PrintVerdict house s t area r after
       → (answer_of (outcome house s t) area ≡ r) × (area_of (outcome house s t) area ≡ after)
   print_given (by_symbols r y) = let e = symbols-given house y in (rw e, rw e)
   print_given (by_pattern r y p) =

@@ -1,12 +1,10 @@
 -- Demand 2: "Word and text are those of the standard as document 01 narrows it". What a word is that is given, and what a text is that is printed.
-use Rattle.std.specs.Prelude.{◌≡◌, List, ◌++◌, ℕ, ◌≤◌, length, drop}
+use Rattle.std.specs.Prelude.{Ok, ◌≡◌, List, ◌++◌, ℕ, ◌≤◌, length, drop}
 use Rattle.answer.specs.declared.Keyword.{Keyword}
 use Rattle.number.specs.declared.Number.{Number}
-use Rattle.number.specs.declared.Reading.TheVariants.{Is as NumberIs}
 use Rattle.pack_rules.specs.Syntax.{Rule}
 use Rattle.pack_grammar.specs.Reader.PackAnswer.{Rules}
 use Rattle.select.specs.Words.{Chosen}
-use Rattle.select.specs.declared.Selection.TheVariants.{Word}
 use Rattle.pattern_reader.specs.declared.Pattern.{Pattern}
 use Rattle.demands.specs.Verdicts.{NumberVerdict, PackVerdict, Printable}
 
@@ -15,9 +13,9 @@ pub record TheWord (pack number : List ℕ) (k : Keyword) : Type 0 where
   pub rules : List Rule
   pub operands : Number
   pub pack-read : PackVerdict pack (Rules rules)
-  pub number_read : NumberVerdict number (NumberIs operands)
+  pub number_read : NumberVerdict number (Ok operands)
   -- the keyword of the one rule met, or `other` where none is
-  pub is_word : Chosen operands rules (Word k)
+  pub is_word : Chosen operands rules (Ok k)
 
 -- The text: of symbols, a pattern and a number that are read, whole at the area's front, and no byte beyond. "the printed value is the permitted value
 -- nearest the exact one, rounded once, ties to the even multiple": `PrintedText` says so, in `Printable`.

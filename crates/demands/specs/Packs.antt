@@ -1,23 +1,20 @@
 -- Document 01's words about packs, on bytes.
-use Rattle.std.specs.Prelude.{◌≡◌, ℕ}
+use Rattle.answer.specs.declared.Refusal.{Refusal}
+use Rattle.std.specs.Prelude.{Ok, Result, ◌≡◌, ℕ}
 use mathlib.Core.List.{List, ◌++◌, Permᴰ}
 use Rattle.answer.specs.declared.Keyword.{Keyword}
 use Rattle.answer.specs.declared.Keyword.TheVariants.{Other}
 use Rattle.number.specs.declared.Number.{Number}
-use Rattle.number.specs.declared.Reading.TheVariants.{Is as NumberIs}
 use Rattle.pack_rules.specs.Syntax.{Rule}
 use Rattle.pack_grammar.specs.Reader.{segments}
 use Rattle.select.specs.Words.{MeetsAt}
-use Rattle.select.specs.declared.Selection.{Selection}
-use Rattle.select.specs.declared.Selection.TheVariants.{Word}
 use Rattle.select_text.specs.Select.{select_of}
 use Rattle.check_text.specs.Check.{check_pack}
-use Rattle.check_text.specs.declared.PackCheck.TheVariants.{Passes}
 use Rattle.demands.specs.Verdicts.{NumberVerdict, SelectVerdict}
 
 -- "A passed pack is one the check doesn't refuse."
 abbrev pub Passed : List ℕ → Type 0
-Passed pack = check_pack pack ≡ Passes
+Passed pack = check_pack pack ≡ Ok tt
 
 -- "A shuffle of a pack holds the same rules in any order, each with all the bytes it had between its semicolons or the pack's ends."
 abbrev pub Shuffle : List ℕ → List ℕ → Type 0
@@ -30,14 +27,14 @@ Larger smaller added larger = Permᴰ (segments smaller ++ added) (segments larg
 
 -- The number's text is due `other` under the smaller pack and meets the added rule k, whose keyword is w.
 pub record MeetsAdded (smaller number : List ℕ) (added : List Rule) (k : ℕ) (w : Keyword) : Type 0 where
-  pub had_other : SelectVerdict smaller number (Word Other)
+  pub had_other : SelectVerdict smaller number (Ok Other)
   pub operands : Number
-  pub number_read : NumberVerdict number (NumberIs operands)
+  pub number_read : NumberVerdict number (Ok operands)
   pub meets_it : MeetsAt operands added k w
 
 -- "if a larger pack passes too, every admitted number keeps its word, except that one which had "other" and meets an added rule has that rule's word": what
 -- is answered under the larger pack, by what is due under the smaller
 pub record Grown (smaller larger number : List ℕ) (added : List Rule) : Type 0 where
-  pub named : (k : ℕ) (w : Keyword) → MeetsAdded smaller number added k w → select_of larger number ≡ Word w
+  pub named : (k : ℕ) (w : Keyword) → MeetsAdded smaller number added k w → select_of larger number ≡ Ok w
   -- refused numbers among them
-  pub kept : ((k : ℕ) (w : Keyword) → MeetsAdded smaller number added k w → ⊥) → (c : Selection) → SelectVerdict smaller number c → select_of larger number ≡ c
+  pub kept : ((k : ℕ) (w : Keyword) → MeetsAdded smaller number added k w → ⊥) → (c : Result Keyword Refusal) → SelectVerdict smaller number c → select_of larger number ≡ c

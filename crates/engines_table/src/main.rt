@@ -179,11 +179,11 @@ fn print_check(rt: &impl Print, pack: &[u8]) -> io::Result<()> {
         &mut clauses,
     );
     match read {
-        Read::Rules(count) => print_answers(
+        Ok(count) => print_answers(
             rt,
             ask_both(&columns, &low, &high, &relations, &keyword, &clauses, count),
         ),
-        Read::Refused(x) => print_refusal(rt, x),
+        Err(x) => print_refusal(rt, x),
     }
 }
 

@@ -9,7 +9,7 @@ use lib.Dec.{eqb}
 use borrow.Author.Tests.{eq-eqb, ne_eqb, eqb-true, eqb-false}
 use lib.ListN.{length, get_or, length-append}
 use lib.Seq.{drop_at}
-use Rattle.std.specs.Prelude.{if◌then◌else◌}
+use Rattle.std.specs.Prelude.{Ok, if◌then◌else◌}
 use Rattle.decimal.specs.Digits.{run, value, first, figures, numeral, AllDigits, is_digit}
 use Rattle.decimal.proofs.Choices.{tested}
 use Rattle.decimal.proofs.Runs.{of_append, of_drop}
@@ -22,7 +22,6 @@ use Rattle.number.specs.Reading.{parts_from, shift_of, number_of, significant, r
 use Rattle.number.specs.Table.{AfterZero, integer_digits, fraction_digits, Past15}
 use Rattle.number.specs.Admitted.{Admitted, number_from}
 use Rattle.number.specs.declared.Number.{Number}
-use Rattle.number.specs.declared.Reading.TheVariants.{Is}
 use Rattle.number.proofs.Sizes.{within_digits}
 use Rattle.number.proofs.Table.{reads, read_if}
 
@@ -64,7 +63,7 @@ admitted_parts s p h =
         pos : (value p.whole ≡ 0 → ⊥) → 0 < value p.whole
         pos f = omega arith
 
-pub admitted : (s : List ℕ) (n : Number) → read_number s ≡ Is n → Admitted n.e n.v.0 n.i n.f.0
+pub admitted : (s : List ℕ) (n : Number) → read_number s ≡ Ok n → Admitted n.e n.v.0 n.i n.f.0
 admitted s n e =
     let r = (reads s n).0 e in
     subst (λ (m : Number). Admitted m.e m.v.0 m.i m.f.0) r.1.1 (admitted_parts s r.0 r.1.0)
@@ -74,7 +73,7 @@ from_parts : (s : List ℕ) (p : Parts) → Past15 s p
     → number_of p ≡ number_from p.negative (shift_of p) (length (fraction_digits p)) (value (integer_digits p)) (value (fraction_digits p))
 from_parts s p h = rw (figures_of (fraction_digits p) (fraction_digits_law s p h.past.past.past.past.spells))
 
-pub four_numbers : (s : List ℕ) (n : Number) → read_number s ≡ Is n → n ≡ number_from n.negative n.e n.v.0 n.i n.f.0
+pub four_numbers : (s : List ℕ) (n : Number) → read_number s ≡ Ok n → n ≡ number_from n.negative n.e n.v.0 n.i n.f.0
 four_numbers s n e =
     let r = (reads s n).0 e in
     subst (λ (m : Number). m ≡ number_from m.negative m.e m.v.0 m.i m.f.0) r.1.1 (from_parts s r.0 r.1.0)
@@ -249,5 +248,5 @@ module _ (negative : Bool) (e v i f : ℕ) (a : Admitted e v i f) where
       (ap value fraction_is ∙ value_figures v f ∙ mod-eq_of_lt a.fraction)
 
   -- a text of at most 64 bytes that is read as the number with this sign and these operands
-  pub has_text : (s : List ℕ) × ((length s ≤ max_bytes) × (read_number s ≡ Is (number_from negative e v i f)))
-  has_text = (text, (short, read_if text parts past ∙ ap Is number_is))
+  pub has_text : (s : List ℕ) × ((length s ≤ max_bytes) × (read_number s ≡ Ok (number_from negative e v i f)))
+  has_text = (text, (short, read_if text parts past ∙ ap Ok number_is))

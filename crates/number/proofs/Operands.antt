@@ -1,4 +1,5 @@
 -- Laws of the operands: w and t, the sign, leading zeros, `c` and `e`.
+use Rattle.answer.specs.declared.Refusal.{Refusal}
 use mathlib.Core.Path.{◌≡◌, refl, sym, ap, ◌∙◌, subst}
 use mathlib.Core.Bool.{Bool, true, false}
 use mathlib.Core.List.{List, [], ◌∷◌, ◌++◌}
@@ -11,7 +12,7 @@ use lib.Pow.{pow-add}
 use lib.Dec.{ltb, eqb, eqb-suc-zero}
 use borrow.Author.Tests.{le-ltb, ltb-true, ltb-false, eqb-true, eqb-false, ne_eqb}
 use lib.ListN.{length, get_or, take, drop}
-use Rattle.std.specs.Prelude.{if◌then◌else◌}
+use Rattle.std.specs.Prelude.{Ok, Result, if◌then◌else◌}
 use Rattle.decimal.specs.Choice.{both}
 use Rattle.decimal.specs.Digits.{is_digit, begins, run, value, lead, trim, figures, AllDigits}
 use Rattle.decimal.proofs.Choices.{choices, tested, not_both, both_true}
@@ -26,8 +27,6 @@ use Rattle.number.specs.Reading.{parts_from, exponent_at, fraction_at, point_at,
 use Rattle.number.specs.Admitted.{w_of, t_of, Trimmed}
 use Rattle.number.specs.Alike.{negative, negated}
 use Rattle.number.specs.declared.Number.{Number}
-use Rattle.number.specs.declared.Reading.{Reading}
-use Rattle.number.specs.declared.Reading.TheVariants.{Is}
 use Rattle.number.proofs.Admissible.{admitted, four_numbers}
 
 -- ---- w and t
@@ -83,7 +82,7 @@ trimmed_only v f w t x y p q =
         absurd (q.last n (ap (λ (j : ℕ). j % 10) (sym m ∙ d) ∙ omega arith)))
         (λ l. ltb-false w x l)
 
-pub w_and_t : (s : List ℕ) (n : Number) → read_number s ≡ Is n → Trimmed n.v.0 n.f.0 n.w.0 n.t.0
+pub w_and_t : (s : List ℕ) (n : Number) → read_number s ≡ Ok n → Trimmed n.v.0 n.f.0 n.w.0 n.t.0
 w_and_t s n e =
     let a = admitted s n e in
     let q = four_numbers s n e in
@@ -98,7 +97,7 @@ w_and_t s n e =
 -- ---- the sign
 
 -- what is read with the sign is what is read without it, negated
-abbrev Signed : Reading → Reading → Type 0
+abbrev Signed : Result Number Refusal → Result Number Refusal → Type 0
 Signed x y = x ≡ negated y
 
 judge_signed : (whole fraction exponent : List ℕ) → Signed (judge (parts_from true whole fraction exponent)) (judge (parts_from false whole fraction exponent))
@@ -268,7 +267,7 @@ parts_canonical s =
     (choices Same (begins 45 s) (λ _. rw (canonical_drop 1 s) (whole_canonical true (drop 1 s))) (λ _. whole_canonical false s))
 
 -- what is read of a text with so many bytes and these parts
-abbrev sized_reading : ℕ → Option Parts → Reading
+abbrev sized_reading : ℕ → Option Parts → Result Number Refusal
 sized_reading k o = if ltb max_bytes k then refuse NumberTooLong else judged o
 
 read_canonical : (s : List ℕ) → read_number (canonical s) ≡ read_number s

@@ -1,4 +1,5 @@
 -- Each of 10 to 15 is given exactly when its row says, and a number is read exactly when none is.
+use Rattle.std.specs.Prelude.{Ok}
 use mathlib.Core.Path.{◌≡◌, refl, ap, ◌∙◌, subst}
 use mathlib.Core.Bool.{true, false}
 use mathlib.Core.List.{List}
@@ -18,7 +19,6 @@ use Rattle.number.specs.Grammar.{Parts}
 use Rattle.number.specs.Reading.{parts_of, shift_of, number_of, after_zero, significant, refuse, judge, judged, read_number}
 use Rattle.number.specs.Table.{AfterZero, integer_digits, fraction_digits, Past11, Past12, Past13, Past14, Past15, Row}
 use Rattle.number.specs.declared.Number.{Number}
-use Rattle.number.specs.declared.Reading.TheVariants.{Is}
 use Rattle.number.proofs.Grammatical.{sound, complete, none_spells}
 
 -- 13's test says what its row says
@@ -72,7 +72,7 @@ given_if FractionTooLong s (p, h) =
     judged_as s p h.0.past.past.past
     ∙ rw (past_12 s p h.0.past.past, past_13 s p h.0.past, past_14 s p h.0, lt-ltb max_places (length (fraction_digits p)) h.1)
 
-pub read_if : (s : List ℕ) (p : Parts) → Past15 s p → read_number s ≡ Is (number_of p)
+pub read_if : (s : List ℕ) (p : Parts) → Past15 s p → read_number s ≡ Ok (number_of p)
 read_if s p h =
     judged_as s p h.past.past.past.past
     ∙ rw (past_12 s p h.past.past.past, past_13 s p h.past.past, past_14 s p h.past, le-ltb max_places (length (fraction_digits p)) h.places)
@@ -132,10 +132,10 @@ given r s = (only (told s), given_if r s)
         never (cc)
 
 -- a number is read exactly when the text is one's and no row is given, and it is the number of the text's parts
-pub reads : (s : List ℕ) (n : Number) → (read_number s ≡ Is n) ↔ ((p : Parts) × (Past15 s p × (number_of p ≡ n)))
-reads s n = (only (told s), λ h. read_if s h.0 h.1.0 ∙ ap Is h.1.1)
+pub reads : (s : List ℕ) (n : Number) → (read_number s ≡ Ok n) ↔ ((p : Parts) × (Past15 s p × (number_of p ≡ n)))
+reads s n = (only (told s), λ h. read_if s h.0 h.1.0 ∙ ap Ok h.1.1)
   where
-    only : Told s → read_number s ≡ Is n → (p : Parts) × (Past15 s p × (number_of p ≡ n))
+    only : Told s → read_number s ≡ Ok n → (p : Parts) × (Past15 s p × (number_of p ≡ n))
     only (row q h) e =
         let k = given_if q s h in
         never (cc)

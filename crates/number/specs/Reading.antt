@@ -1,5 +1,6 @@
 -- Reading a number: its operands, and refusals 10 to 15 in the order of document 01's table.
-use Rattle.std.specs.Prelude.{Bool, true, false, List, [], ◌++◌, ℕ, ◌-◌, ltb, eqb, length, get_or, take, drop, if◌then◌else◌}
+use Rattle.answer.specs.declared.Refusal.{Refusal}
+use Rattle.std.specs.Prelude.{Err, Ok, Result, Bool, true, false, List, [], ◌++◌, ℕ, ◌-◌, ltb, eqb, length, get_or, take, drop, if◌then◌else◌}
 use Rattle.std.proofs.Math.Option.{Option, none, some}
 use Rattle.decimal.specs.Choice.{both}
 use Rattle.decimal.specs.Digits.{begins, run, value, first, lead, trim}
@@ -9,8 +10,6 @@ use Rattle.answer.specs.declared.Refusal.TheVariants.{Number as OfNumber}
 use Rattle.number.specs.Limits.{max_bytes, max_exponent, max_digits, max_places}
 use Rattle.number.specs.Grammar.{Parts, is_mark, is_exponent}
 use Rattle.number.specs.declared.Number.{Number}
-use Rattle.number.specs.declared.Reading.{Reading}
-use Rattle.number.specs.declared.Reading.TheVariants.{Is, Refused}
 
 -- ---- the parts of a text, read from its front
 
@@ -72,8 +71,8 @@ number_of p = number_at p.negative p.whole p.fraction (shift_of p)
 
 -- ---- the table
 
-abbrev pub refuse : NumberRow → Reading
-refuse row = Refused (OfNumber row)
+abbrev pub refuse : NumberRow → Result Number Refusal
+refuse row = Err (OfNumber row)
 
 -- 12: "exponent above 14"
 abbrev pub exponent_above : ℕ → Bool
@@ -96,24 +95,24 @@ abbrev pub fraction_too_long : List ℕ → Bool
 fraction_too_long digits = ltb max_places (length digits)
 
 -- 14, 15, and then the number
-abbrev pub sized : Bool → List ℕ → List ℕ → ℕ → Reading
+abbrev pub sized : Bool → List ℕ → List ℕ → ℕ → Result Number Refusal
 sized negative whole fraction e =
     if integer_too_long (integer_at whole fraction e) then refuse IntegerTooLong else
     if fraction_too_long (visible_at fraction e) then refuse FractionTooLong else
-    Is (number_at negative whole fraction e)
+    Ok (number_at negative whole fraction e)
 
 -- 12, 13, and then the sizes
-abbrev pub judge : Parts → Reading
+abbrev pub judge : Parts → Result Number Refusal
 judge p =
     if exponent_above (shift_of p) then refuse ExponentTooLarge else
     if after_zero p.whole p.exponent then refuse ExponentAfterZero else
     sized p.negative p.whole p.fraction (shift_of p)
 
 -- 11, and then what the parts say
-abbrev pub judged : Option Parts → Reading
+abbrev pub judged : Option Parts → Result Number Refusal
 judged none = refuse NotANumber
 judged (some p) = judge p
 
 -- 10, "number over 64 bytes", and then the rest
-abbrev pub read_number : List ℕ → Reading
+abbrev pub read_number : List ℕ → Result Number Refusal
 read_number s = if ltb max_bytes (length s) then refuse NumberTooLong else judged (parts_of s)

@@ -33,16 +33,11 @@ pub struct Number {
     pub t: DigitValue,
 }
 
-#[derive(Clone, Copy)]
-pub enum Reading {
-    Is(Number),
-    Refused(Refusal),
-}
 
-pub fn refuse(row: NumberRow) -> Reading
-    ensures { result ≡ Reading.Refused (Refusal.Number row) }
+pub fn refuse(row: NumberRow) -> Result<Number, Refusal>
+    ensures { result ≡ Err (Refusal.Number row) }
 {
-    Reading::Refused(Refusal::Number(row))
+    Err(Refusal::Number(row))
 }
 
 // An exponent is written after a zero integer part.
@@ -56,7 +51,7 @@ fn after_zero(whole: &[u8], exponent: &[u8]) -> bool
 }
 
 // The number with its point shifted e places to the right.
-fn shifted(negative: bool, whole: &[u8], fraction: &[u8], e: u64) -> Reading
+fn shifted(negative: bool, whole: &[u8], fraction: &[u8], e: u64) -> Result<Number, Refusal>
     requires { (e ≤ max_exponent) × AllDigits whole.now × AllDigits fraction.now }
     ensures { result ≡ sized negative whole.now fraction.now e }
 {
@@ -73,7 +68,7 @@ fn shifted(negative: bool, whole: &[u8], fraction: &[u8], e: u64) -> Reading
     let w = decimal::scan::trimmed_len(rest);
     let f = decimal::value::value_of(rest);
     let t = decimal::value::value_of(decimal::cut::upto(rest, w));
-    Reading::Is(Number {
+    Ok(Number {
         negative: negative,
         e: e as u8,
         i: i,
@@ -85,7 +80,7 @@ fn shifted(negative: bool, whole: &[u8], fraction: &[u8], e: u64) -> Reading
 }
 
 // The parts are told: refusals 12 to 15, or the number.
-pub fn parted(negative: bool, whole: &[u8], fraction: &[u8], exponent: &[u8]) -> Reading
+pub fn parted(negative: bool, whole: &[u8], fraction: &[u8], exponent: &[u8]) -> Result<Number, Refusal>
     requires { AllDigits whole.now × AllDigits fraction.now }
     ensures { result ≡ judge (parts_from negative whole.now fraction.now exponent.now) }
 {

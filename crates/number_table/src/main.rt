@@ -2,7 +2,7 @@
 // the number of its refusal.
 #![tactic(auto)]
 
-use number::{Number, Reading};
+use number::Number;
 use std::io;
 use std::io::Read;
 
@@ -29,10 +29,10 @@ fn append_number(out: &mut [u8], at: usize, n: Number) -> usize {
     append_operand(out, short, wide(n.e))
 }
 
-fn append_reading(out: &mut [u8], at: usize, r: Reading) -> usize {
+fn append_reading(out: &mut [u8], at: usize, r: Result<Number, Refusal>) -> usize {
     match r {
-        Reading::Is(n) => append_number(out, at, n),
-        Reading::Refused(refusal) => {
+        Ok(n) => append_number(out, at, n),
+        Err(refusal) => {
             let mark = area::put(out, at, 33);
             append_operand(out, mark, wide(answer_table::number(refusal)))
         }

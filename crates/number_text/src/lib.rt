@@ -10,8 +10,8 @@ ghost use Rattle.decimal.specs.Digits.{AllDigits, run};
 ghost use Rattle.number.specs.Grammar.{is_mark, is_exponent, is_tail};
 ghost use Rattle.number.specs.Reading.{exponent_at, point_at, whole_at, judged, read_number};
 
-use answer::NumberRow;
-use number::Reading;
+use answer::{NumberRow, Refusal};
+use number::Number;
 
 // `c` or `e`
 fn is_mark(b: u8) -> bool
@@ -55,7 +55,7 @@ fn is_tail(s: &[u8]) -> bool
     marks_exponent(s[0], decimal::cut::after(s, 1))
 }
 
-fn read_exponent(negative: bool, whole: &[u8], fraction: &[u8], s: &[u8]) -> Reading
+fn read_exponent(negative: bool, whole: &[u8], fraction: &[u8], s: &[u8]) -> Result<Number, Refusal>
     requires { AllDigits whole.now × AllDigits fraction.now }
     ensures { result ≡ judged (exponent_at negative whole.now fraction.now s.now) }
 {
@@ -94,7 +94,7 @@ fn is_lacking(on: bool, n: usize) -> bool
     false
 }
 
-fn read_point(negative: bool, whole: &[u8], s: &[u8]) -> Reading
+fn read_point(negative: bool, whole: &[u8], s: &[u8]) -> Result<Number, Refusal>
     requires { AllDigits whole.now }
     ensures { result ≡ judged (point_at negative whole.now s.now) }
 {
@@ -112,7 +112,7 @@ fn read_point(negative: bool, whole: &[u8], s: &[u8]) -> Reading
     )
 }
 
-fn read_whole(negative: bool, s: &[u8]) -> Reading
+fn read_whole(negative: bool, s: &[u8]) -> Result<Number, Refusal>
     ensures { result ≡ judged (whole_at negative s.now) }
 {
     let n = decimal::scan::digit_run(s);
@@ -127,7 +127,7 @@ fn read_whole(negative: bool, s: &[u8]) -> Reading
 }
 
 // The number that a text spells, or refusals 10 to 15 in the order of the table.
-pub fn read_number(text: &[u8]) -> Reading
+pub fn read_number(text: &[u8]) -> Result<Number, Refusal>
     ensures { result ≡ read_number text.now }
 {
     if number::MAX_BYTES < text.len() {

@@ -1,4 +1,5 @@
 -- The board goes with the definition, token by token; so the last board has the pack's answer and rules.
+use Rattle.answer.specs.declared.Refusal.{Refusal}
 use mathlib.Core.Path.{◌≡◌, refl, sym, ap, ◌∙◌, subst}
 use mathlib.Core.Bool.{Bool, true, false}
 use mathlib.Core.List.{List, [], ◌∷◌, ◌++◌, map, append-nil}
@@ -7,7 +8,7 @@ use native.Mathlib.Omega.{arith}
 use lib.Dec.{eqb, ltb}
 use lib.ListN.{length}
 use borrow.Author.Tests.{ltb-false, le-ltb}
-use Rattle.std.specs.Prelude.{if◌then◌else◌}
+use Rattle.std.specs.Prelude.{Ok, Result, if◌then◌else◌}
 use Rattle.decimal.proofs.Choices.{choice, tested, not_both}
 use Rattle.pack_rules.specs.Syntax.{Relation}
 use Rattle.pack_rules.specs.Held.{held_rules, lent}
@@ -41,8 +42,6 @@ use Rattle.pack_walk.specs.Steps.{stop_after}
 use Rattle.pack_walk.specs.declared.Current.{Current}
 use Rattle.pack_walk.specs.declared.Walk.{Walk}
 use Rattle.pack_verdict.specs.Verdict.{read_by, judged, judged_all}
-use Rattle.pack_verdict.specs.declared.Read.{Read as Returned}
-use Rattle.pack_verdict.specs.declared.Read.TheVariants.{Rules as Counted}
 use Rattle.pack_reader.specs.Answer.{read_of, rules_of, count_in, ReadAs}
 use Rattle.pack_reader.specs.Board.{Arrays, Sized, Board, board_after, boards, start_walk, within4096, last_board, pack_of}
 use Rattle.pack_reader.specs.Bounds.{flat}
@@ -275,7 +274,7 @@ by_fault : (row place n : ℕ) (f : Fault) (rs : List RuleTree) → fault_at row
 by_fault row place n f rs e h = go (eqb row 0) refl e
   where
     go : (b : Bool) → eqb row 0 ≡ b → (if b then None else At row place) ≡ f → read_by row place n ≡ read_of (judge (Trees rs) f)
-    go true k e = rw (sym e, k) (ap Counted (h (sym e)))
+    go true k e = rw (sym e, k) (ap Ok (h (sym e)))
     go false k e = rw (sym e, k)
 
 pub record Answered (b : Board) (p : Parsed) (f : Fault) : Type 0 where
@@ -344,18 +343,18 @@ judged_as a e u s z q =
     record {
       answer = j ∙ (ap (λ (x : Board). judged x.walk) f ∙ w.answer);
       rules =
-          ap (λ (v : Returned). held_rules (pack_of e (count_in v))) j
+          ap (λ (v : Result ℕ Refusal). held_rules (pack_of e (count_in v))) j
           ∙ (ap (λ (x : Board). held_rules (pack_of x.arrays (count_in (judged x.walk)))) f ∙ w.rules);
     })
 
 -- whatever arrays of these sizes came first: those that are left, and what is judged of the walk, are the answer
-pub told : (a e : Arrays) (u : Walk) (s : Text) {r : Returned} → Sized a → record { walk = u; arrays = e } ≡ last_board a (within4096 s)
+pub told : (a e : Arrays) (u : Walk) (s : Text) {r : Result ℕ Refusal} → Sized a → record { walk = u; arrays = e } ≡ last_board a (within4096 s)
     → r ≡ judged_all (length s) u → ReadAs (read_pack s) r (pack_of e (count_in r))
-told a e u s z q h = subst (λ (r : Returned). ReadAs (read_pack s) r (pack_of e (count_in r))) (sym h) (judged_as a e u s z q)
+told a e u s z q h = subst (λ (r : Result ℕ Refusal). ReadAs (read_pack s) r (pack_of e (count_in r))) (sym h) (judged_as a e u s z q)
 
 -- the arrays with so many rules as are told hold the answer's
-pub rules_left : {a : PackAnswer} {r : Returned} {low high columns relations keyword clauses : List ℕ}
-    → ReadAs a r (lent low high columns relations keyword clauses (count_in r)) → (n : ℕ) → r ≡ Counted n
+pub rules_left : {a : PackAnswer} {r : Result ℕ Refusal} {low high columns relations keyword clauses : List ℕ}
+    → ReadAs a r (lent low high columns relations keyword clauses (count_in r)) → (n : ℕ) → r ≡ Ok n
     → held_rules (lent low high columns relations keyword clauses n) ≡ rules_of a
 rules_left {a} {r} {low} {high} {columns} {relations} {keyword} {clauses} h n e =
     ap (λ (k : ℕ). held_rules (lent low high columns relations keyword clauses k)) (sym (ap count_in e)) ∙ h.rules

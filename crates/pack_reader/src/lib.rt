@@ -94,7 +94,7 @@ pub fn read_pack(
     relations: &mut ClauseEnds,
     keyword: &mut Keywords,
     clauses: &mut RuleEnds,
-) -> Read
+) -> Result<usize, Refusal>
     ensures { ReadAs (read_pack text.now) result (lent low.new high.new columns.new relations.new keyword.new clauses.new (count_in result)) }
 {
     sized(low, high, columns, relations, keyword, clauses);

@@ -51,8 +51,8 @@ fn print_reading(rt: &impl Print, pack: &[u8]) -> io::Result<()> {
         &mut clauses,
     );
     match read {
-        Read::Rules(n) => print_count(rt, n),
-        Read::Refused(x) => print_refusal(rt, x),
+        Ok(n) => print_count(rt, n),
+        Err(x) => print_refusal(rt, x),
     }
 }
 

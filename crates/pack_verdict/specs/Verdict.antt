@@ -1,5 +1,6 @@
 -- The answer at a pack's end, behind a last `;`: a rule has been closed there, or nothing could follow.
-use Rattle.std.specs.Prelude.{ℕ, eqb, ltb, if◌then◌else◌}
+use Rattle.answer.specs.declared.Refusal.{Refusal}
+use Rattle.std.specs.Prelude.{Err, Ok, Result, ℕ, eqb, ltb, if◌then◌else◌}
 use Rattle.answer.specs.declared.PackRow.TheVariants.{NotAPack}
 use Rattle.answer.specs.declared.Refusal.TheVariants.{PackTooLong, Pack as OfPack}
 use Rattle.pack_grammar.specs.Limits.{max_bytes}
@@ -7,18 +8,16 @@ use Rattle.pack_grammar.specs.Reader.{row_of}
 use Rattle.pack_phase.specs.Next.{same_phase}
 use Rattle.pack_phase.specs.declared.Phase.TheVariants.{Name}
 use Rattle.pack_walk.specs.declared.Walk.{Walk}
-use Rattle.pack_verdict.specs.declared.Read.{Read}
-use Rattle.pack_verdict.specs.declared.Read.TheVariants.{Rules, Refused}
 
 -- by the row and place of a fault: n rules where there is none
-abbrev pub read_by : ℕ → ℕ → ℕ → Read
-read_by row place n = if eqb row 0 then Rules n else Refused (OfPack (row_of row) (record { 0 = place }))
+abbrev pub read_by : ℕ → ℕ → ℕ → Result ℕ Refusal
+read_by row place n = if eqb row 0 then Ok n else Err (OfPack (row_of row) (record { 0 = place }))
 
-abbrev pub judged : Walk → Read
+abbrev pub judged : Walk → Result ℕ Refusal
 judged w =
     if same_phase w.phase Name then read_by w.mark.row w.mark.place w.counts.rules else
-    Refused (OfPack NotAPack (record { 0 = w.mark.stop }))
+    Err (OfPack NotAPack (record { 0 = w.mark.stop }))
 
 -- the answer to a pack of n bytes
-abbrev pub judged_all : ℕ → Walk → Read
-judged_all n w = if ltb max_bytes n then Refused PackTooLong else judged w
+abbrev pub judged_all : ℕ → Walk → Result ℕ Refusal
+judged_all n w = if ltb max_bytes n then Err PackTooLong else judged w

@@ -15,11 +15,6 @@ use pack_phase::{Phase, same_phase};
 use pack_walk::Walk;
 
 // How many rules a pack has, or why it is not read.
-#[derive(Clone, Copy)]
-pub enum Read {
-    Rules(usize),
-    Refused(Refusal),
-}
 
 fn row_of(n: u8) -> PackRow
     ensures { result ≡ row_of n }
@@ -40,16 +35,16 @@ fn row_of(n: u8) -> PackRow
 }
 
 // By a fault's row and place: n rules where there is no fault.
-fn read_by(row: u8, place: usize, n: usize) -> Read
+fn read_by(row: u8, place: usize, n: usize) -> Result<usize, Refusal>
     ensures { result ≡ read_by row place n }
 {
     if row == 0 {
-        return Read::Rules(n);
+        return Ok(n);
     }
-    Read::Refused(Refusal::Pack(row_of(row), Place(place)))
+    Err(Refusal::Pack(row_of(row), Place(place)))
 }
 
-fn judge(w: Walk) -> Read
+fn judge(w: Walk) -> Result<usize, Refusal>
     ensures { result ≡ judged w }
 {
     let p = w.phase;
@@ -58,15 +53,15 @@ fn judge(w: Walk) -> Read
     if same_phase(p, Phase::Name) {
         return read_by(m.row, m.place, c.rules);
     }
-    Read::Refused(Refusal::Pack(PackRow::NotAPack, Place(m.stop)))
+    Err(Refusal::Pack(PackRow::NotAPack, Place(m.stop)))
 }
 
 // The answer at the end of a pack of n bytes.
-pub fn judge_all(n: usize, w: Walk) -> Read
+pub fn judge_all(n: usize, w: Walk) -> Result<usize, Refusal>
     ensures { result ≡ judged_all n w }
 {
     if MAX_BYTES < n {
-        return Read::Refused(Refusal::PackTooLong);
+        return Err(Refusal::PackTooLong);
     }
     judge(w)
 }

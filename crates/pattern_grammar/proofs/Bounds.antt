@@ -1,4 +1,5 @@
 -- What is read of a pattern keeps its bounds: step, digits and group sizes.
+use Rattle.std.specs.Prelude.{Ok}
 use mathlib.Core.Path.{◌≡◌, refl, sym, subst, ◌∙◌}
 use mathlib.Core.Bool.{false}
 use mathlib.Core.List.{List, [], ◌∷◌, ◌++◌, map}
@@ -17,7 +18,6 @@ use Rattle.pattern_reader.specs.Limits.{max_whole, max_fraction, max_step}
 use Rattle.pattern_reader.specs.declared.Negative.{Negative}
 use Rattle.pattern_reader.specs.declared.Negative.TheVariants.{MinusSymbol}
 use Rattle.pattern_reader.specs.declared.Pattern.{Pattern}
-use Rattle.pattern_reader.specs.declared.PatternReading.TheVariants.{Is}
 use Rattle.pattern_reader.specs.Reading.{read_pattern}
 use Rattle.pattern_grammar.specs.NumberPart.{drop_commas, IsWhole, IsPart}
 use Rattle.pattern_grammar.specs.Grammar.{IsSub, IsPattern, one, two}
@@ -189,7 +189,7 @@ pattern_bounds : {s : List ℕ} (w : IsPattern s) → Past35 w → Bounds (patte
 pattern_bounds (one w) q = asked_bounds w MinusSymbol q.past.places q.step
 pattern_bounds (two {a} w v) q = asked_bounds w (own_in (length a + 1) v) (λ m. q.past.places (inl m)) (λ m. q.step (inl m))
 
-pub read_bounds : (s : List ℕ) (p : Pattern) → read_pattern s ≡ Is p → Bounds p
+pub read_bounds : (s : List ℕ) (p : Pattern) → read_pattern s ≡ Ok p → Bounds p
 read_bounds s p e =
     let w = (read_plain s p e).1 in
     let a = read_asks s w p e in
@@ -201,7 +201,7 @@ factor_most w =
     choice (λ (n : ℕ). n ≤ 1000) (eqb (marks_in percent_mark w) 1) (λ k. omega arith)
     (λ k. choice (λ (n : ℕ). n ≤ 1000) (eqb (marks_in permille_mark w) 1) (λ l. omega arith) (λ l. omega arith))
 
-pub read_factor : (s : List ℕ) (p : Pattern) → read_pattern s ≡ Is p → p.factor ≤ 1000
+pub read_factor : (s : List ℕ) (p : Pattern) → read_pattern s ≡ Ok p → p.factor ≤ 1000
 read_factor s p e =
     let w = (read_plain s p e).1 in
     subst (λ (q : Pattern). q.factor ≤ 1000) (read_asks s w p e).is (asked_factor w)

@@ -1,5 +1,6 @@
 -- A pattern that is read asks for what its parts in the grammar say, and has them where the grammar has them; of a negative subpattern only the
 -- affixes are used.
+use Rattle.answer.specs.declared.Refusal.{Refusal}
 use mathlib.Core.Path.{◌≡◌, refl, sym, ap, subst, ◌∙◌}
 use mathlib.Core.List.{List, [], ◌∷◌, ◌++◌, append-nil}
 use mathlib.Core.Logic.{◌↔◌, inl}
@@ -9,14 +10,12 @@ use borrow.Author.Tests.{eqb-true, eqb-false}
 use lib.Dec.{eqb}
 use lib.ListN.{length, take, drop}
 use lib.Seq.{take_at, take-length, drop_at, drop-drop}
-use Rattle.std.specs.Prelude.{if◌then◌else◌}
+use Rattle.std.specs.Prelude.{Ok, Result, if◌then◌else◌}
 use Rattle.decimal.proofs.Choices.{tested}
 use Rattle.pattern_token.specs.Items.{permille as permille_mark}
 use Rattle.pattern_reader.specs.declared.Negative.{Negative}
 use Rattle.pattern_reader.specs.declared.Negative.TheVariants.{MinusSymbol}
 use Rattle.pattern_reader.specs.declared.Pattern.{Pattern}
-use Rattle.pattern_reader.specs.declared.PatternReading.{PatternReading}
-use Rattle.pattern_reader.specs.declared.PatternReading.TheVariants.{Is}
 use Rattle.pattern_reader.specs.Reading.{span, read_pattern}
 use Rattle.pattern_grammar.specs.Grammar.{IsSub, IsPattern, one, two}
 use Rattle.pattern_grammar.specs.Meaning.{percent_mark, marks_in, factor_in, ManyMarks, InEither, InFirst, asked, own_in, pattern_in}
@@ -29,10 +28,10 @@ use Rattle.pattern_grammar.proofs.Verdicts.{verdict_given, verdict_found, refuse
 
 -- ---- what is read
 
-pub read_plain : (s : List ℕ) (p : Pattern) → read_pattern s ≡ Is p → Plain s × IsPattern s
+pub read_plain : (s : List ℕ) (p : Pattern) → read_pattern s ≡ Ok p → Plain s × IsPattern s
 read_plain s p e = found (verdict_found s) e
   where
-    found : {r : PatternReading} → Verdict s r → r ≡ Is p → Plain s × IsPattern s
+    found : {r : Result Pattern Refusal} → Verdict s r → r ≡ Ok p → Plain s × IsPattern s
     found (too_long h) k = not_read _ p k
     found (not_utf8 h u) k = not_read _ p k
     found (reserved h u a) k = not_read _ p k
@@ -44,16 +43,16 @@ read_plain s p e = found (verdict_found s) e
     found (read w q m o) k = (q.past.plain, w)
 
 -- in whatever way the text is a pattern
-pub read_asks : (s : List ℕ) (w : IsPattern s) (p : Pattern) → read_pattern s ≡ Is p → Asks w p
+pub read_asks : (s : List ℕ) (w : IsPattern s) (p : Pattern) → read_pattern s ≡ Ok p → Asks w p
 read_asks s w p e =
     refused_or_read s (read_plain s p e).0 w (λ row v. not_read row p (sym (verdict_given s v) ∙ e))
     (λ r m o. record { past = r; few = m; same = o; is = pattern_same (sym (verdict_given s (read w r m o)) ∙ e) })
   where
-    pattern_same : {q : Pattern} → Is q ≡ Is p → q ≡ p
+    pattern_same : {q : Pattern} → Ok q ≡ Ok p → q ≡ p
     pattern_same {q} k = cc
 
 -- so a pattern that is read asks for one thing only
-pub same_meaning : (s : List ℕ) (w v : IsPattern s) (p : Pattern) → read_pattern s ≡ Is p → pattern_in w ≡ pattern_in v
+pub same_meaning : (s : List ℕ) (w v : IsPattern s) (p : Pattern) → read_pattern s ≡ Ok p → pattern_in w ≡ pattern_in v
 same_meaning s w v p e = (read_asks s w p e).is ∙ sym (read_asks s v p e).is
 
 -- ---- where the parts of a subpattern stand
@@ -76,7 +75,7 @@ asked_parts a r w n =
 
 -- ---- a pattern of one subpattern
 
-pub one_read : (s : List ℕ) (w : IsSub s) (p : Pattern) → read_pattern s ≡ Is p
+pub one_read : (s : List ℕ) (w : IsSub s) (p : Pattern) → read_pattern s ≡ Ok p
     → Parts s p w × (p.negative ≡ MinusSymbol)
 one_read s w p e =
     let same = (read_asks s (one w) p e).is in
@@ -108,7 +107,7 @@ own_texts a b v =
         let e : at + (k + n) ≡ at + k + n = omega arith in
         sym (drop-drop (k + n) at s ∙ ap (λ (m : ℕ). drop m s) e)
 
-pub two_read : (a b : List ℕ) (w : IsSub a) (v : IsSub b) (p : Pattern) → read_pattern (a ++ (59 ∷ b)) ≡ Is p
+pub two_read : (a b : List ℕ) (w : IsSub a) (v : IsSub b) (p : Pattern) → read_pattern (a ++ (59 ∷ b)) ≡ Ok p
     → Parts (a ++ (59 ∷ b)) p w × Affixes (a ++ (59 ∷ b)) p.negative v.prefix v.suffix
 two_read a b w v p e =
     let s = a ++ (59 ∷ b) in
@@ -155,7 +154,7 @@ factor_asked : {s : List ℕ} (w : IsPattern s) → (InEither ManyMarks w → �
 factor_asked (one w) n = marks_multiply w n
 factor_asked (two w v) n = marks_multiply w (λ m. n (inl m))
 
-pub factor_is : (s : List ℕ) (w : IsPattern s) (p : Pattern) → read_pattern s ≡ Is p → InFirst (Multiplies p.factor) w
+pub factor_is : (s : List ℕ) (w : IsPattern s) (p : Pattern) → read_pattern s ≡ Ok p → InFirst (Multiplies p.factor) w
 factor_is s w p e =
     let a = read_asks s w p e in
     subst (λ (q : Pattern). InFirst (Multiplies q.factor) w) a.is (factor_asked w a.few)

@@ -1,4 +1,5 @@
 -- Rows 30 to 36: a pattern gets the one answer that the table gives it.
+use Rattle.answer.specs.declared.Refusal.{Refusal}
 use mathlib.Core.Path.{◌≡◌, refl, sym, ap, subst, ◌∙◌}
 use mathlib.Core.Bool.{true, false, not}
 use mathlib.Core.List.{List, [], ◌∷◌, ◌++◌, append-nil}
@@ -7,7 +8,7 @@ use native.Mathlib.Omega.{arith}
 use borrow.Author.Tests.{eq-eqb, ne_eqb, lt-ltb, le-ltb, ltb-true, ltb-false}
 use lib.Dec.{eqb, ltb}
 use lib.ListN.{length, get_or, drop, length-append}
-use Rattle.std.specs.Prelude.{if◌then◌else◌}
+use Rattle.std.specs.Prelude.{Ok, Result, if◌then◌else◌}
 use Rattle.decimal.specs.Choice.{both, either}
 use Rattle.decimal.proofs.Choices.{tested, not_both, either_false}
 use Rattle.utf8.specs.Utf8.{is_utf8}
@@ -21,8 +22,6 @@ use Rattle.pattern_reader.specs.declared.Half.{Half}
 use Rattle.pattern_reader.specs.declared.Negative.{Negative}
 use Rattle.pattern_reader.specs.declared.Negative.TheVariants.{MinusSymbol}
 use Rattle.pattern_reader.specs.declared.Pattern.{Pattern}
-use Rattle.pattern_reader.specs.declared.PatternReading.{PatternReading}
-use Rattle.pattern_reader.specs.declared.PatternReading.TheVariants.{Is}
 use Rattle.pattern_reader.specs.Reading.{half_of, end_of, fits, many_places, step_over, many_marks, same_marks, pattern_of, own_affixes, judged_marks, halves, read_pattern, refuse}
 use Rattle.pattern_grammar.specs.Grammar.{IsSub, IsPattern, one, two}
 use Rattle.pattern_grammar.specs.Meaning.{ManyPlaces, StepOver, ManyMarks, InEither, OtherMarks, own_in, pattern_in}
@@ -35,7 +34,7 @@ use Rattle.pattern_grammar.proofs.Meanings.{Meant, half_meant, alone_meant, Told
 -- ---- the halves of a text that is well formed, and of one that is not
 
 -- rows 34 to 36
-judged_rest : Half → Half → Negative → PatternReading
+judged_rest : Half → Half → Negative → Result Pattern Refusal
 judged_rest a b n =
     if either (many_places a) (many_places b) then refuse TooManyPlaces else
     if either (step_over a) (step_over b) then refuse StepTooLarge else
@@ -180,12 +179,12 @@ module _ (a b : Half) (n : Negative) where
   rest_differ e f h = tested (either (many_marks a) (many_marks b)) (λ g. rw (e, f, g)) (λ g. rw (e, f, g, not_holds (same_marks a b) h))
 
   rest_read : either (many_places a) (many_places b) ≡ false → either (step_over a) (step_over b) ≡ false → either (many_marks a) (many_marks b) ≡ false
-      → not (same_marks a b) ≡ false → judged_rest a b n ≡ Is (pattern_of a n)
+      → not (same_marks a b) ≡ false → judged_rest a b n ≡ Ok (pattern_of a n)
   unfolding judged_rest
   rest_read e f g h = rw (e, f, g, not_fails (same_marks a b) h)
 
 -- "given exactly when": the answer whose row's condition holds is the reader's answer ..
-pub verdict_given : (s : List ℕ) {r : PatternReading} → Verdict s r → read_pattern s ≡ r
+pub verdict_given : (s : List ℕ) {r : Result Pattern Refusal} → Verdict s r → read_pattern s ≡ r
 verdict_given s (too_long h) = rw (lt-ltb max_bytes (length s) h)
 verdict_given s (not_utf8 h u) =
     let k : is_utf8 s ≡ false = tested (is_utf8 s) (λ k. absurd (u (utf8_sound s k))) (λ k. k) in
@@ -211,7 +210,7 @@ verdict_given s (read w p m o) =
     let k = fails g.marks m in
     judged_read s w p.past.plain
     ∙ (rest_read g.first g.second g.negative (fails g.places p.past.places) (fails g.step p.step) k (fails g.other o)
-    ∙ ap Is (g.is k))
+    ∙ ap Ok (g.is k))
 
 -- a plain pattern, in whatever way the text is one, is refused by one of 34 to 36 or is read
 pub refused_or_read : {A : Type 0} (s : List ℕ) → Plain s → (w : IsPattern s)
@@ -230,7 +229,7 @@ refused_or_read s p w refused is =
     (λ m. settled g.other (λ e. refused PercentMismatch (other_marks w r e)) (λ o. is r m o))))
 
 -- .. and some row's condition holds of every text, so the reader's answer is always one whose row's condition holds
-made : (s : List ℕ) {r : PatternReading} → Verdict s r → Verdict s (read_pattern s)
+made : (s : List ℕ) {r : Result Pattern Refusal} → Verdict s r → Verdict s (read_pattern s)
 made s v = subst (Verdict s) (sym (verdict_given s v)) v
 
 pub verdict_found : (s : List ℕ) → Verdict s (read_pattern s)
@@ -253,10 +252,10 @@ verdict_found s = tested (ltb max_bytes (length s)) (λ k. made s (too_long (ltb
         (λ u. made s (not_utf8 h (λ t. not_both (text_utf8 s t) u)))
 
 -- a refusal is not a pattern that is read
-pub not_read : {A : Type 0} (row : PatternRow) (p : Pattern) → refuse row ≡ Is p → A
+pub not_read : {A : Type 0} (row : PatternRow) (p : Pattern) → refuse row ≡ Ok p → A
 not_read row p e = absurd (no e)
   where
-    no : refuse row ≡ Is p → ⊥
+    no : refuse row ≡ Ok p → ⊥
     no g =
         let z : ◌≡◌ {A = ℕ} 0 1 = cc in
         omega arith

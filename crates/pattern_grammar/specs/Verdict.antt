@@ -1,12 +1,11 @@
 -- Document 01's table, rows 30 to 36: which answer a pattern gets, in terms of the grammar. "Within one input the lowest number wins"; "34 and 35
 -- judge both subpatterns."
-use Rattle.std.specs.Prelude.{◌≡◌, List, ℕ, ◌≤◌, ◌<◌, length}
+use Rattle.answer.specs.declared.Refusal.{Refusal}
+use Rattle.std.specs.Prelude.{Ok, Result, ◌≡◌, List, ℕ, ◌≤◌, ◌<◌, length}
 use Rattle.utf8.specs.Scalar.{IsText}
 use Rattle.answer.specs.declared.PatternRow.TheVariants.{PatternTooLong, PatternNotUtf8, ReservedByte, NotAPattern, TooManyPlaces, StepTooLarge, PercentMismatch}
 use Rattle.pattern_reader.specs.Limits.{max_bytes}
 use Rattle.pattern_reader.specs.declared.Pattern.{Pattern}
-use Rattle.pattern_reader.specs.declared.PatternReading.{PatternReading}
-use Rattle.pattern_reader.specs.declared.PatternReading.TheVariants.{Is}
 use Rattle.pattern_reader.specs.Reading.{refuse}
 use Rattle.pattern_grammar.specs.Grammar.{IsPattern}
 use Rattle.pattern_grammar.specs.Reserved.{Reserved}
@@ -27,7 +26,7 @@ pub record Past35 {s : List ℕ} (w : IsPattern s) : Type 0 where
   pub past : Past34 w
   pub step : InEither StepOver w → ⊥
 
-pub data Verdict (s : List ℕ) : PatternReading → Type 0 where
+pub data Verdict (s : List ℕ) : Result Pattern Refusal → Type 0 where
   -- 30: "pattern over 256 bytes"
   too_long : max_bytes < length s → Verdict s (refuse PatternTooLong)
   -- 31: "pattern not UTF-8"
@@ -44,7 +43,7 @@ pub data Verdict (s : List ℕ) : PatternReading → Type 0 where
   many_marks_law : (w : IsPattern s) → Past35 w → InEither ManyMarks w → Verdict s (refuse PercentMismatch)
   other_marks : (w : IsPattern s) → Past35 w → OtherMarks w → Verdict s (refuse PercentMismatch)
   -- else the pattern is read
-  read : (w : IsPattern s) → Past35 w → (InEither ManyMarks w → ⊥) → (OtherMarks w → ⊥) → Verdict s (Is (pattern_in w))
+  read : (w : IsPattern s) → Past35 w → (InEither ManyMarks w → ⊥) → (OtherMarks w → ⊥) → Verdict s (Ok (pattern_in w))
 
 -- a pattern to which no row applies, and which asks for this
 pub record Asks {s : List ℕ} (w : IsPattern s) (p : Pattern) : Type 0 where

@@ -1,5 +1,6 @@
 -- Document 01, "The pattern": what is read of a pattern, and refusals 30 to 36 in the order of the table.
-use Rattle.std.specs.Prelude.{Bool, List, ℕ, ◌+◌, ltb, eqb, length, get_or, take, drop, if◌then◌else◌}
+use Rattle.answer.specs.declared.Refusal.{Refusal}
+use Rattle.std.specs.Prelude.{Err, Ok, Result, Bool, List, ℕ, ◌+◌, ltb, eqb, length, get_or, take, drop, if◌then◌else◌}
 use Rattle.decimal.specs.Lists.{run_of}
 use Rattle.decimal.specs.Choice.{both, either}
 use Rattle.utf8.specs.Utf8.{is_utf8}
@@ -18,8 +19,6 @@ use Rattle.pattern_reader.specs.declared.Negative.{Negative}
 use Rattle.pattern_reader.specs.declared.Negative.TheVariants.{MinusSymbol, Own}
 use Rattle.pattern_reader.specs.declared.Half.{Half}
 use Rattle.pattern_reader.specs.declared.Pattern.{Pattern}
-use Rattle.pattern_reader.specs.declared.PatternReading.{PatternReading}
-use Rattle.pattern_reader.specs.declared.PatternReading.TheVariants.{Is, Refused}
 
 -- ---- "A prefix, a number part, a suffix": the subpattern that a text begins with
 
@@ -90,8 +89,8 @@ many_marks h = ltb 1 (h.percents + h.permilles)
 abbrev pub same_marks : Half → Half → Bool
 same_marks a b = both (eqb a.percents b.percents) (eqb a.permilles b.permilles)
 
-abbrev pub refuse : PatternRow → PatternReading
-refuse row = Refused (OfPattern row)
+abbrev pub refuse : PatternRow → Result Pattern Refusal
+refuse row = Err (OfPattern row)
 
 abbrev pub span : ℕ → ℕ → Span
 span start n = record { start = start; len = n }
@@ -116,13 +115,13 @@ pattern_of h negative =
       negative = negative;
     }
 
-abbrev pub judged_marks : Half → Half → Negative → PatternReading
+abbrev pub judged_marks : Half → Half → Negative → Result Pattern Refusal
 judged_marks a b negative =
     if either (many_marks a) (many_marks b) then refuse PercentMismatch else
-    if same_marks a b then Is (pattern_of a negative) else
+    if same_marks a b then Ok (pattern_of a negative) else
     refuse PercentMismatch
 
-abbrev pub judged : Half → Half → Negative → PatternReading
+abbrev pub judged : Half → Half → Negative → Result Pattern Refusal
 judged a b negative =
     if both (fits a) (fits b) then
     (if either (many_places a) (many_places b) then refuse TooManyPlaces else
@@ -138,17 +137,17 @@ abbrev pub own_affixes : ℕ → Half → Negative
 own_affixes at b = Own (span at b.prefix) (span (at + b.prefix + b.number) b.suffix)
 
 -- the pattern s with the subpattern a, and from the place `at` on the subpattern b
-abbrev pub with_second : List ℕ → Half → ℕ → Half → PatternReading
+abbrev pub with_second : List ℕ → Half → ℕ → Half → Result Pattern Refusal
 with_second s a at b = if eqb (at + end_of b) (length s) then judged a b (own_affixes at b) else refuse NotAPattern
 
-abbrev pub halves : List ℕ → PatternReading
+abbrev pub halves : List ℕ → Result Pattern Refusal
 halves s =
     let a = half_of s in
     if eqb (end_of a) (length s) then judged a a MinusSymbol else
     if eqb (get_or s (end_of a) 0) 59 then with_second s a (end_of a + 1) (half_of (drop (end_of a + 1) s)) else
     refuse NotAPattern
 
-abbrev pub read_pattern : List ℕ → PatternReading
+abbrev pub read_pattern : List ℕ → Result Pattern Refusal
 read_pattern s =
     if ltb max_bytes (length s) then refuse PatternTooLong else
     if is_utf8 s then (if any_reserved (items s) then refuse ReservedByte else halves s) else

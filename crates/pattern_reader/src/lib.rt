@@ -67,16 +67,11 @@ pub struct Pattern {
     pub negative: Negative,
 }
 
-#[derive(Clone, Copy)]
-pub enum PatternReading {
-    Is(Pattern),
-    Refused(Refusal),
-}
 
-fn refuse(row: PatternRow) -> PatternReading
-    ensures { result ≡ PatternReading.Refused (Refusal.Pattern row) }
+fn refuse(row: PatternRow) -> Result<Pattern, Refusal>
+    ensures { result ≡ Err (Refusal.Pattern row) }
 {
-    PatternReading::Refused(Refusal::Pattern(row))
+    Err(Refusal::Pattern(row))
 }
 
 // How many number-part bytes s begins with.
@@ -226,7 +221,7 @@ fn do_both(a: bool, b: bool) -> bool
 }
 
 // The table's rows 33 to 36 of the subpatterns a and b, in their order, or the pattern.
-fn judge(a: Half, b: Half, negative: Negative) -> PatternReading
+fn judge(a: Half, b: Half, negative: Negative) -> Result<Pattern, Refusal>
     requires { a.prefix + a.number ≤ 256 }
     ensures { result ≡ judged a b negative }
 {
@@ -242,7 +237,7 @@ fn judge(a: Half, b: Half, negative: Negative) -> PatternReading
     refuse(PatternRow::NotAPattern)
 }
 
-fn judge_marks(a: Half, b: Half, negative: Negative) -> PatternReading
+fn judge_marks(a: Half, b: Half, negative: Negative) -> Result<Pattern, Refusal>
     requires { a.prefix + a.number ≤ 256 }
     ensures { result ≡ judged_marks a b negative }
 {
@@ -250,7 +245,7 @@ fn judge_marks(a: Half, b: Half, negative: Negative) -> PatternReading
         return refuse(PatternRow::PercentMismatch);
     }
     if has_same_marks(a, b) {
-        return PatternReading::Is(pattern_of(a, negative));
+        return Ok(pattern_of(a, negative));
     }
     refuse(PatternRow::PercentMismatch)
 }
@@ -266,7 +261,7 @@ fn own_affixes(at: usize, b: Half) -> Negative
 }
 
 // Reads the subpatterns of s: the second from the pattern's middle, by the same reader.
-fn read_halves(s: &[u8]) -> PatternReading
+fn read_halves(s: &[u8]) -> Result<Pattern, Refusal>
     requires { length s.now ≤ 256 }
     ensures { result ≡ halves s.now }
 {
@@ -287,7 +282,7 @@ fn read_halves(s: &[u8]) -> PatternReading
 }
 
 // Reads a pattern.
-pub fn read_pattern(s: &[u8]) -> PatternReading
+pub fn read_pattern(s: &[u8]) -> Result<Pattern, Refusal>
     ensures { result ≡ read_pattern s.now }
 {
     if MAX_BYTES < s.len() {

@@ -10,7 +10,7 @@
 ghost use Rattle.std.specs.Prelude.{◌≤◌, length};
 
 use decimal::cut;
-use pattern_reader::{Negative, Pattern, PatternReading, Span};
+use pattern_reader::{Negative, Pattern, Span};
 use std::io;
 use std::io::Read;
 
@@ -69,10 +69,10 @@ fn print_pattern(rt: &impl Print, p: Pattern) -> io::Result<()> {
     print_negative(rt, negative)
 }
 
-fn print_reading(rt: &impl Print, r: PatternReading) -> io::Result<()> {
+fn print_reading(rt: &impl Print, r: Result<Pattern, Refusal>) -> io::Result<()> {
     match r {
-        PatternReading::Is(p) => print_pattern(rt, p)?,
-        PatternReading::Refused(refusal) => {
+        Ok(p) => print_pattern(rt, p)?,
+        Err(refusal) => {
             print!(rt; "! ")?;
             print(rt, wide(answer_table::number(refusal)))?;
         }

@@ -1,4 +1,5 @@
 -- What is read of symbols, pattern and number is within the bounds of rounding and of an area's places.
+use Rattle.std.specs.Prelude.{Ok}
 use mathlib.Core.Path.{◌≡◌}
 use mathlib.Core.Bool.{true, false}
 use mathlib.Core.List.{List}
@@ -12,15 +13,12 @@ use Rattle.decimal.proofs.Choices.{tested}
 use Rattle.decimal.proofs.Values.{power_mono}
 use Rattle.decimal.proofs.Figured.{length_figures}
 use Rattle.area.specs.Area.{most}
-use Rattle.symbols.specs.declared.Judged.TheVariants.{Good}
 use Rattle.symbols.specs.Entries.{read_symbols, symbol_in, standard_record}
 use Rattle.symbols_grammar.proofs.Records.{found_four}
 use Rattle.number.specs.declared.Number.{Number}
-use Rattle.number.specs.declared.Reading.TheVariants.{Is as NumberIs}
 use Rattle.number.specs.Reading.{read_number}
 use Rattle.number.proofs.Admissible.{admitted}
 use Rattle.pattern_reader.specs.declared.Pattern.{Pattern}
-use Rattle.pattern_reader.specs.declared.PatternReading.TheVariants.{Is as PatternIs}
 use Rattle.pattern_reader.specs.Limits.{max_bytes}
 use Rattle.pattern_reader.specs.Reading.{read_pattern}
 use Rattle.pattern_grammar.proofs.Verdicts.{not_read}
@@ -31,11 +29,11 @@ use Rattle.rounding.proofs.Arithmetic.{fits_within}
 use Rattle.layout.specs.Text.{affixes_of, digits_of, text_of}
 use Rattle.print.proofs.Sizes.{text_size}
 
-read_short : (s : List ℕ) (p : Pattern) → read_pattern s ≡ PatternIs p → length s ≤ max_bytes
+read_short : (s : List ℕ) (p : Pattern) → read_pattern s ≡ Ok p → length s ≤ max_bytes
 read_short s p e = tested (ltb max_bytes (length s)) (λ k. not_read _ p (rw k at e)) (λ k. ltb-false max_bytes (length s) k)
 
 -- what rounding asks
-pub ready_within : (s t : List ℕ) (p : Pattern) (n : Number) → read_pattern s ≡ PatternIs p → read_number t ≡ NumberIs n
+pub ready_within : (s t : List ℕ) (p : Pattern) (n : Number) → read_pattern s ≡ Ok p → read_number t ≡ Ok n
     → within p.step p.factor p.most n.i n.v.0 n.f.0 ≡ true
 ready_within s t p n ep en =
     let b = read_bounds s p ep in
@@ -52,7 +50,7 @@ ready_within s t p n ep en =
     })
 
 -- what the area's places ask
-pub ready_size : (house s : List ℕ) (p : Pattern) (n : Number) → read_symbols house ≡ Good → read_pattern s ≡ PatternIs p
+pub ready_size : (house s : List ℕ) (p : Pattern) (n : Number) → read_symbols house ≡ Ok tt → read_pattern s ≡ Ok p
     → length (text_of (symbol_in house standard_record) s p n) ≤ most
 ready_size house s p n eh ep =
     let d = digits_of p n in

@@ -1,4 +1,6 @@
 -- A symbol record without kind 71 prints what it printed before: the same text or the same refusal.
+use Rattle.std.specs.Prelude.{Err, Ok, Result}
+use Rattle.answer.specs.declared.Refusal.{Refusal}
 use mathlib.Core.Path.{◌≡◌, refl, sym, ap, ◌∙◌}
 use mathlib.Core.Bool.{false}
 use mathlib.Core.List.{List, [], ◌∷◌}
@@ -16,20 +18,14 @@ use Rattle.pattern_token.specs.Items.{items}
 use Rattle.answer.specs.declared.SymbolRow.TheVariants.{NotASymbolRecord}
 use Rattle.symbols.specs.declared.Symbol.{Symbol}
 use Rattle.symbols.specs.declared.Symbol.TheVariants.{Decimal, Group, Minus, Plus, Percent, Permille, Minimum}
-use Rattle.symbols.specs.declared.Judged.{Judged}
-use Rattle.symbols.specs.declared.Judged.TheVariants.{Good, Refused as SymbolsRefused}
 use Rattle.symbols.specs.Kinds.{upper_of}
 use Rattle.symbols.specs.Entries.{broken, refuse, read_symbols, symbol_in, standard_record}
 use Rattle.symbols_grammar.specs.Base.{NoMinimum, base_symbol}
 use Rattle.symbols_grammar.proofs.Base.{base_read, base_symbol_law, base_minimum_law}
 use Rattle.pattern_reader.specs.declared.Span.{Span}
 use Rattle.pattern_reader.specs.declared.Pattern.{Pattern}
-use Rattle.pattern_reader.specs.declared.PatternReading.{PatternReading}
-use Rattle.pattern_reader.specs.declared.PatternReading.TheVariants.{Is as PatternIs, Refused as PatternRefused}
 use Rattle.pattern_reader.specs.Reading.{read_pattern}
 use Rattle.number.specs.declared.Number.{Number}
-use Rattle.number.specs.declared.Reading.{Reading}
-use Rattle.number.specs.declared.Reading.TheVariants.{Is as NumberIs, Refused as NumberRefused}
 use Rattle.number.specs.Reading.{read_number}
 use Rattle.layout.specs.Layout.{whole_digits, zero_digit, group_size, grouped}
 use Rattle.layout.specs.Text.{symbol_of, render, rendered, part_of, affix_text, affixes_of, minimum_in, number_with, number_text, digits_of, text_of}
@@ -91,30 +87,30 @@ module _ (f g : Symbol → List ℕ) (same : (y : Symbol) → (y ≡ Minimum →
 -- ---- the outcome
 
 module _ (house s t : List ℕ) (h : NoMinimum house) where
-  whole_record : read_symbols house ≡ Good → broken house ≡ false
+  whole_record : read_symbols house ≡ Ok tt → broken house ≡ false
   whole_record g = tested (broken house) (λ k. never (differ (sym g ∙ rw k))) (λ k. k)
     where
-      differ : Good ≡ refuse NotASymbolRecord → ◌≡◌ {A = ℕ} 0 1
+      differ : (Ok tt) ≡ refuse NotASymbolRecord → ◌≡◌ {A = ℕ} 0 1
       differ e = cc
 
-  text_before : read_symbols house ≡ Good → (p : Pattern) (n : Number) → text_of (symbol_in house standard_record) s p n ≡ base_text (base_symbol house) s p n
+  text_before : read_symbols house ≡ Ok tt → (p : Pattern) (n : Number) → text_of (symbol_in house standard_record) s p n ≡ base_text (base_symbol house) s p n
   text_before g p n =
       let symbol = symbol_in house standard_record in
       let m : minimum_in symbol ≡ 1 = ap (λ (b : List ℕ). get_or b 0 0) (base_minimum_law house h (whole_record g)) in
       rw (number_one symbol p (digits_of p n) m) (text_same symbol (base_symbol house) (base_symbol_law house h) s p n)
 
-  number_before : read_symbols house ≡ Good → (p : Pattern) (r : Reading) → after_number house s p r ≡ base_number house s p r
-  number_before g p (NumberIs n) = rw (text_before g p n)
-  number_before g p (NumberRefused r) = refl
+  number_before : read_symbols house ≡ Ok tt → (p : Pattern) (r : Result Number Refusal) → after_number house s p r ≡ base_number house s p r
+  number_before g p (Ok n) = rw (text_before g p n)
+  number_before g p (Err r) = refl
 
-  pattern_before : read_symbols house ≡ Good → (r : PatternReading) → after_pattern house s r t ≡ base_pattern house s r t
-  pattern_before g (PatternIs p) = number_before g p (read_number t)
-  pattern_before g (PatternRefused r) = refl
+  pattern_before : read_symbols house ≡ Ok tt → (r : Result Pattern Refusal) → after_pattern house s r t ≡ base_pattern house s r t
+  pattern_before g (Ok p) = number_before g p (read_number t)
+  pattern_before g (Err r) = refl
 
-  judged_before : (j : Judged) → read_symbols house ≡ j → after_symbols house j s t ≡ base_judged house j s t
-  judged_before Good g = pattern_before g (read_pattern s)
-  judged_before (SymbolsRefused r) g = refl
+  judged_before : (j : Result (Unit {0}) Refusal) → read_symbols house ≡ j → after_symbols house j s t ≡ base_judged house j s t
+  judged_before (Ok tt) g = pattern_before g (read_pattern s)
+  judged_before (Err r) g = refl
 
   -- for every record without kind 71, every pattern and every number
   pub as_before : outcome house s t ≡ base_outcome house s t
-  as_before = judged_before (read_symbols house) refl ∙ ap (λ (j : Judged). base_judged house j s t) (base_read house h)
+  as_before = judged_before (read_symbols house) refl ∙ ap (λ (j : Result (Unit {0}) Refusal). base_judged house j s t) (base_read house h)

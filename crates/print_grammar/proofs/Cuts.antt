@@ -8,7 +8,7 @@ use borrow.Author.Tests.{eqb-true}
 use lib.Dec.{eqb}
 use lib.ListN.{length, get_or, drop}
 use lib.Seq.{drop_at}
-use Rattle.std.specs.Prelude.{if◌then◌else◌}
+use Rattle.std.specs.Prelude.{Ok, if◌then◌else◌}
 use Rattle.decimal.specs.Choice.{both, either}
 use Rattle.decimal.proofs.Choices.{choices, tested, not_both, never}
 use Rattle.pattern_token.specs.declared.Item.{Item}
@@ -22,7 +22,6 @@ use Rattle.pattern_reader.specs.declared.Span.{Span}
 use Rattle.pattern_reader.specs.declared.Negative.{Negative}
 use Rattle.pattern_reader.specs.declared.Negative.TheVariants.{Own}
 use Rattle.pattern_reader.specs.declared.Pattern.{Pattern}
-use Rattle.pattern_reader.specs.declared.PatternReading.TheVariants.{Is}
 use Rattle.pattern_reader.specs.Reading.{places, prefix_len, read_pattern}
 use Rattle.pattern_grammar.specs.NumberPart.{IsPart}
 use Rattle.pattern_grammar.specs.Grammar.{IsAffix, IsSub, IsPattern, one, two}
@@ -196,7 +195,7 @@ sub_clean a r w e n u =
 
 -- ---- the affixes of a pattern that is read
 
-pattern_affixes : {s : List ℕ} → IsPattern s → any_reserved (items s) ≡ false → (p : Pattern) → read_pattern s ≡ Is p → PatternClean s p
+pattern_affixes : {s : List ℕ} → IsPattern s → any_reserved (items s) ≡ false → (p : Pattern) → read_pattern s ≡ Ok p → PatternClean s p
 pattern_affixes (one {s} w) u p e =
     let d = one_read s w p e in
     let c = sub_clean s [] w refl false (rw append-nil u) in
@@ -220,5 +219,5 @@ pattern_affixes (two {a} {b} w v) u p e =
         let j : x.behind ≡ behind = cc x.own in
         record { prefix = rw (sym i, x.prefix_text) y; suffix = rw (sym j, x.suffix_text) z }
 
-pub pattern_clean : (s : List ℕ) (p : Pattern) → read_pattern s ≡ Is p → PatternClean s p
+pub pattern_clean : (s : List ℕ) (p : Pattern) → read_pattern s ≡ Ok p → PatternClean s p
 pattern_clean s p e = let r = read_plain s p e in pattern_affixes r.1 (plain_items s r.0) p e

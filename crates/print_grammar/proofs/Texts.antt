@@ -6,20 +6,18 @@ use mathlib.Core.Logic.{◌↔◌}
 use Prim.Native.Nat.{ℕ, ◌+◌, ◌≤◌, ◌<◌}
 use native.Mathlib.Omega.{arith}
 use lib.ListN.{length}
-use Rattle.std.specs.Prelude.{if◌then◌else◌}
+use Rattle.std.specs.Prelude.{Ok, if◌then◌else◌}
 use Rattle.decimal.specs.Digits.{value}
 use Rattle.decimal.proofs.Choices.{tested, not_both}
 use Rattle.decimal.proofs.Figured.{length_figures, digits_figures}
 use Rattle.symbols.specs.declared.Symbol.{Symbol}
 use Rattle.symbols.specs.declared.Symbol.TheVariants.{Decimal, Group, Minus}
 use Rattle.number.specs.declared.Number.{Number}
-use Rattle.number.specs.declared.Reading.TheVariants.{Is as NumberIs}
 use Rattle.number.specs.Reading.{read_number}
 use Rattle.pattern_reader.specs.declared.Span.{Span}
 use Rattle.pattern_reader.specs.declared.Negative.{Negative}
 use Rattle.pattern_reader.specs.declared.Negative.TheVariants.{MinusSymbol, Own}
 use Rattle.pattern_reader.specs.declared.Pattern.{Pattern}
-use Rattle.pattern_reader.specs.declared.PatternReading.TheVariants.{Is as PatternIs}
 use Rattle.pattern_reader.specs.Limits.{max_whole, max_fraction}
 use Rattle.pattern_reader.specs.Reading.{read_pattern}
 use Rattle.pattern_grammar.proofs.Bounds.{read_bounds}
@@ -116,7 +114,7 @@ units_in p n = units_of p.step p.factor p.most n.i n.v.0 n.f.0
 room : (p : Pattern) (n : Number) → p.least ≤ max_whole → p.most ≤ max_fraction → p.least + p.most ≤ length (digits_of p n)
 room p n h k = rw (length_figures width (units_in p n)) (omega arith)
 
-module _ (s t : List ℕ) (p : Pattern) (n : Number) (ep : read_pattern s ≡ PatternIs p) (en : read_number t ≡ NumberIs n) where
+module _ (s t : List ℕ) (p : Pattern) (n : Number) (ep : read_pattern s ≡ Ok p) (en : read_number t ≡ Ok n) where
   -- the digits of the definition are those shown of the printed value
   digits_are_shown : ShownDigits p.least p.fraction p.most (units_in p n) (whole_digits p.least p.most (digits_of p n)) (fraction_digits p.fraction p.most (digits_of p n))
   digits_are_shown =

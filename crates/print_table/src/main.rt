@@ -4,7 +4,6 @@
 #![tactic(auto)]
 
 use decimal::{cut, scan};
-use print::Printed;
 use std::io;
 use std::io::Read;
 
@@ -21,10 +20,10 @@ fn write_figures(rt: &impl Print, f: answer::FigureList) -> io::Result<()> {
     Ok(())
 }
 
-fn write_answer(rt: &impl Print, r: Printed, out: &[u8]) -> io::Result<()> {
+fn write_answer(rt: &impl Print, r: Result<usize, Refusal>, out: &[u8]) -> io::Result<()> {
     match r {
-        Printed::Text(n) => rt.write_all(cut::upto(out, n))?,
-        Printed::Refused(refusal) => {
+        Ok(n) => rt.write_all(cut::upto(out, n))?,
+        Err(refusal) => {
             let number = wide(answer_table::number(refusal));
             print!(rt; "! {number}")?;
             write_figures(rt, answer_lists::figures(refusal))?;

@@ -12,11 +12,8 @@ ghost use Rattle.answer.specs.Table.{number_of, figures_of};
 ghost use Rattle.screen_figures.specs.Figures.{noted, sign_of, operands_of, word_number, read_code, read_figures, select_code, select_figures, check_code, check_figures, print_code, print_figures};
 
 use answer::{Keyword, Refusal};
-use check_text::PackCheck;
 use decimal::num::{fewer, wide_byte};
-use number::{Number, Reading};
-use print::Printed;
-use select::Selection;
+use number::Number;
 
 // Stores a figure at a place, if there is one.
 fn put(figures: &mut [u64], at: usize, x: u64)
@@ -118,45 +115,45 @@ fn note_none(figures: &mut [u64; 8]) -> u32
 }
 
 // A number's reading: sign (1: negative), e, v, i, f, w, t, or the refusal.
-pub fn note_reading(figures: &mut [u64; 8], reading: Reading) -> u32
+pub fn note_reading(figures: &mut [u64; 8], reading: Result<Number, Refusal>) -> u32
     ensures value { result ≡ read_code reading }
     ensures figures_after { figures.new ≡ noted (read_figures reading) figures.old }
 {
     match reading {
-        Reading::Is(x) => note_number(figures, x),
-        Reading::Refused(r) => note_refusal(figures, r),
+        Ok(x) => note_number(figures, x),
+        Err(r) => note_refusal(figures, r),
     }
 }
 
 // A selection: the word's number, 0 to 5 for zero, one, two, few, many, other; or the refusal.
-pub fn note_selection(figures: &mut [u64; 8], selection: Selection) -> u32
+pub fn note_selection(figures: &mut [u64; 8], selection: Result<Keyword, Refusal>) -> u32
     ensures value { result ≡ select_code selection }
     ensures figures_after { figures.new ≡ noted (select_figures selection) figures.old }
 {
     match selection {
-        Selection::Word(k) => note_one(figures, word_number(k)),
-        Selection::Refused(r) => note_refusal(figures, r),
+        Ok(k) => note_one(figures, word_number(k)),
+        Err(r) => note_refusal(figures, r),
     }
 }
 
 // A pack's check: no figures where it passes, or the refusal.
-pub fn note_check(figures: &mut [u64; 8], checked: PackCheck) -> u32
+pub fn note_check(figures: &mut [u64; 8], checked: Result<(), Refusal>) -> u32
     ensures value { result ≡ check_code checked }
     ensures figures_after { figures.new ≡ noted (check_figures checked) figures.old }
 {
     match checked {
-        PackCheck::Passes => note_none(figures),
-        PackCheck::Refused(r) => note_refusal(figures, r),
+        Ok(()) => note_none(figures),
+        Err(r) => note_refusal(figures, r),
     }
 }
 
 // What was printed: the text's length, or the refusal.
-pub fn note_printed(figures: &mut [u64; 8], printed: Printed) -> u32
+pub fn note_printed(figures: &mut [u64; 8], printed: Result<usize, Refusal>) -> u32
     ensures value { result ≡ print_code printed }
     ensures figures_after { figures.new ≡ noted (print_figures printed) figures.old }
 {
     match printed {
-        Printed::Text(n) => note_one(figures, n as u64),
-        Printed::Refused(r) => note_refusal(figures, r),
+        Ok(n) => note_one(figures, n as u64),
+        Err(r) => note_refusal(figures, r),
     }
 }

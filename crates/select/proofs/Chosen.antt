@@ -1,4 +1,6 @@
 -- The word is that of the one rule met; with two or more the first two are told.
+use Rattle.std.specs.Prelude.{Err, Ok, Result}
+use Rattle.answer.specs.declared.Refusal.{Refusal}
 use mathlib.Core.Path.{◌≡◌, refl, sym, ap, ◌∙◌}
 use mathlib.Core.Bool.{Bool, true, false}
 use mathlib.Core.List.{List, [], ◌∷◌}
@@ -19,8 +21,6 @@ use Rattle.select.specs.Select.{met_by, count_met, first_met, second_met, keywor
 use Rattle.select.specs.Words.{MeetsAt, Chosen}
 use Rattle.select.specs.Words.MeetsAt.{here, there}
 use Rattle.select.specs.Words.Chosen.{none, one, two}
-use Rattle.select.specs.declared.Selection.{Selection}
-use Rattle.select.specs.declared.Selection.TheVariants.{Word, Refused}
 
 -- the second met rule, rule by rule
 second_true : (bs : List Bool) → second_met (true ∷ bs) ≡ suc (first_met bs)
@@ -112,7 +112,7 @@ module _ (x : Number) where
           ⊎_elim (λ e. e) (λ e. absurd (omega (arith, behind_counted m (omega arith)))) (first_or_behind m)
 
   -- and nothing else is
-  pub only_told : (rules : List Rule) (s : Selection) → Chosen x rules s → s ≡ selection rules x
+  pub only_told : (rules : List Rule) (s : Result Keyword Refusal) → Chosen x rules s → s ≡ selection rules x
   only_told rules s (none f) = rw (eq-eqb (count_met (met_by rules x)) 0 zero_met)
     where
       zero_met : count_met (met_by rules x) ≡ 0
@@ -122,7 +122,7 @@ module _ (x : Number) where
           pos n = omega arith
   only_told rules s (one k w m u) =
       rw (ne_eqb (count_met (met_by rules x)) 0 (λ z. omega (arith, counted m)), eq-eqb (count_met (met_by rules x)) 1 single)
-      (ap Word (sym (ap (keyword_at rules) (u (first_met (met_by rules x)) (keyword_at rules (first_met (met_by rules x))) (first_meets rules (counted m))) ∙ keyword_of m)))
+      (ap Ok (sym (ap (keyword_at rules) (u (first_met (met_by rules x)) (keyword_at rules (first_met (met_by rules x))) (first_meets rules (counted m))) ∙ keyword_of m)))
     where
       single : count_met (met_by rules x) ≡ 1
       single =
@@ -150,7 +150,7 @@ module _ (x : Number) where
           (f (second_met (met_by rules x)) (keyword_at rules (second_met (met_by rules x))) (second_meets rules double))
 
       pair : a ≡ first_met (met_by rules x) → b ≡ second_met (met_by rules x)
-          → Refused (OfRules (TwoRulesMet (record { first = a + 1; second = b + 1 }))) ≡ Refused (OfRules (TwoRulesMet (pair_of (met_by rules x))))
+          → Err (OfRules (TwoRulesMet (record { first = a + 1; second = b + 1 }))) ≡ Err (OfRules (TwoRulesMet (pair_of (met_by rules x))))
       pair p q = rw (p, q)
 
 -- ---- the sign changes no word

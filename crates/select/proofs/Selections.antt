@@ -1,4 +1,5 @@
 -- The word chosen from the bits is the word chosen from the met rules.
+use Rattle.std.specs.Prelude.{Err, Ok}
 use mathlib.Core.Path.{◌≡◌, refl, sym, ap, ◌∙◌}
 use mathlib.Core.Bool.{Bool}
 use mathlib.Core.List.{List, ◌∷◌}
@@ -19,7 +20,6 @@ use Rattle.pack_rules.proofs.Stretches.{Sized, length_stretch, held_rules_law}
 use Rattle.meaning.specs.Meaning.{meets}
 use Rattle.select.specs.Select.{met_by, mask_of, count_met, first_met, second_met, keyword_at, pair_of, selection}
 use Rattle.meaning.specs.Places.{met_at}
-use Rattle.select.specs.declared.Selection.TheVariants.{Word, Refused}
 use Rattle.select.proofs.Masks.{ones_mask, trailing_mask, mask_drop, first_within, count_behind}
 
 met_stretch : (x : Number) (g : ℕ → Rule) (from n : ℕ) → met_by (stretch g from n) x ≡ stretch (λ (j : ℕ). meets (g j) x) from n
@@ -58,14 +58,14 @@ module _ (p : Pack) (x : Number) (m : ℕ) (s : Sized p) (h : Met p x m) where
   pub first_small : 0 < ones m → count_trailing_zeros 32 m < 6
   first_small k = omega (arith, first_is k, first_within (met_by (held_rules p) x) (omega (arith, count_is)), h.few)
 
-  pub none_met : ones m ≡ 0 → Word Other ≡ selection (held_rules p) x
+  pub none_met : ones m ≡ 0 → Ok Other ≡ selection (held_rules p) x
   none_met z = rw (eq-eqb (count_met (met_by (held_rules p) x)) 0 (omega (arith, count_is)))
 
-  pub one_met : ones m ≡ 1 → Word (keyword_of (get_or p.keyword (count_trailing_zeros 32 m) 0)) ≡ selection (held_rules p) x
+  pub one_met : ones m ≡ 1 → Ok (keyword_of (get_or p.keyword (count_trailing_zeros 32 m) 0)) ≡ selection (held_rules p) x
   one_met o =
       let bs = met_by (held_rules p) x in
       rw (ne_eqb (count_met bs) 0 (λ z. omega (arith, count_is)), eq-eqb (count_met bs) 1 (omega (arith, count_is)))
-      (ap Word (sym word))
+      (ap Ok (sym word))
     where
       within : first_met (met_by (held_rules p) x) < min p.count 6
       within =
@@ -90,12 +90,12 @@ module _ (p : Pack) (x : Number) (m : ℕ) (s : Sized p) (h : Met p x m) where
       omega (arith, second_is k, first_within (drop (first_met bs + 1) bs) (omega (arith, count_behind bs (omega (arith, count_is)), count_is)), length-drop (first_met bs + 1) bs, h.few)
 
   pub two_met : (a b : ℕ) → 2 ≤ ones m → a ≡ count_trailing_zeros 32 m + 1 → b ≡ a + count_trailing_zeros 32 (m / 2 ^ (count_trailing_zeros 32 m + 1)) + 1
-      → Refused (OfRules (TwoRulesMet (record { first = a; second = b }))) ≡ selection (held_rules p) x
+      → Err (OfRules (TwoRulesMet (record { first = a; second = b }))) ≡ selection (held_rules p) x
   two_met a b k e f =
       let bs = met_by (held_rules p) x in
       rw (ne_eqb (count_met bs) 0 (λ z. omega (arith, count_is)), ne_eqb (count_met bs) 1 (λ z. omega (arith, count_is)))
       (pair (omega (arith, first_is (omega arith))) (omega (arith, first_is (omega arith), second_is k)))
     where
       pair : a ≡ first_met (met_by (held_rules p) x) + 1 → b ≡ second_met (met_by (held_rules p) x) + 1
-          → Refused (OfRules (TwoRulesMet (record { first = a; second = b }))) ≡ Refused (OfRules (TwoRulesMet (pair_of (met_by (held_rules p) x))))
+          → Err (OfRules (TwoRulesMet (record { first = a; second = b }))) ≡ Err (OfRules (TwoRulesMet (pair_of (met_by (held_rules p) x))))
       pair u v = rw (u, v)

@@ -1,6 +1,7 @@
 -- Selection: document 01, "Selection asks how many rules a number meets, and which is first: none gives `other`, one gives its keyword, more is
 -- refusal 27 with the first two."
-use Rattle.std.specs.Prelude.{Bool, true, false, List, [], ◌∷◌, ℕ, zero, suc, ◌+◌, ◌*◌, eqb, drop, if◌then◌else◌}
+use Rattle.answer.specs.declared.Refusal.{Refusal}
+use Rattle.std.specs.Prelude.{Err, Ok, Result, Bool, true, false, List, [], ◌∷◌, ℕ, zero, suc, ◌+◌, ◌*◌, eqb, drop, if◌then◌else◌}
 use Rattle.answer.specs.declared.Keyword.{Keyword}
 use Rattle.answer.specs.declared.Keyword.TheVariants.{Other}
 use Rattle.answer.specs.declared.Pair.{Pair}
@@ -9,8 +10,6 @@ use Rattle.answer.specs.declared.RulesRow.TheVariants.{TwoRulesMet}
 use Rattle.number.specs.declared.Number.{Number}
 use Rattle.pack_rules.specs.Syntax.{Rule}
 use Rattle.meaning.specs.Meaning.{meets}
-use Rattle.select.specs.declared.Selection.{Selection}
-use Rattle.select.specs.declared.Selection.TheVariants.{Word, Refused}
 
 -- which rules the number meets, in the order of the text
 abbrev pub met_by : List Rule → Number → List Bool
@@ -50,11 +49,11 @@ keyword_at (r ∷ rs) (suc k) = keyword_at rs k
 abbrev pub pair_of : List Bool → Pair
 pair_of bs = record { first = first_met bs + 1; second = second_met bs + 1 }
 
-abbrev pub chosen : List Rule → List Bool → Selection
+abbrev pub chosen : List Rule → List Bool → Result Keyword Refusal
 chosen rules bs =
-    if eqb (count_met bs) 0 then Word Other else
-    if eqb (count_met bs) 1 then Word (keyword_at rules (first_met bs)) else
-    Refused (OfRules (TwoRulesMet (pair_of bs)))
+    if eqb (count_met bs) 0 then Ok Other else
+    if eqb (count_met bs) 1 then Ok (keyword_at rules (first_met bs)) else
+    Err (OfRules (TwoRulesMet (pair_of bs)))
 
-abbrev pub selection : List Rule → Number → Selection
+abbrev pub selection : List Rule → Number → Result Keyword Refusal
 selection rules x = chosen rules (met_by rules x)

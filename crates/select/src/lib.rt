@@ -18,11 +18,6 @@ use answer::{Keyword, Pair, Refusal, RulesRow};
 use number::Number;
 use pack_rules::{ClauseEnds, Columns, Keywords, RangeEnds, RuleEnds};
 
-#[derive(Clone, Copy)]
-pub enum Selection {
-    Word(Keyword),
-    Refused(Refusal),
-}
 
 fn keyword_of(k: u8) -> Keyword
     ensures { result ≡ keyword_of k }
@@ -66,22 +61,22 @@ pub fn select_held<'a>(
     clauses: &'a RuleEnds,
     count: usize,
     x: Number,
-) -> Selection
+) -> Result<Keyword, Refusal>
     ensures { result ≡ selection (held_rules (lent low.now high.now columns.now relations.now keyword.now clauses.now count)) x }
 {
     sized(columns, low, high, relations, keyword, clauses);
     let m = mask::met_mask(columns, low, high, relations, clauses, count, x);
     let met = u32::count_ones(m);
     if met == 0 {
-        return Selection::Word(Keyword::Other);
+        return Ok(Keyword::Other);
     }
     let first = u32::trailing_zeros(m);
     if met == 1 {
-        return Selection::Word(keyword_at(keyword, first as usize));
+        return Ok(keyword_at(keyword, first as usize));
     }
     let behind = first + 1;
     let second = behind + u32::trailing_zeros(m >> behind);
-    Selection::Refused(Refusal::Rules(RulesRow::TwoRulesMet(Pair {
+    Err(Refusal::Rules(RulesRow::TwoRulesMet(Pair {
         first: behind as u8,
         second: (second + 1) as u8,
     })))

@@ -1,4 +1,5 @@
 -- Selection tests the pack, then the number, then 27.
+use Rattle.std.specs.Prelude.{Err, Ok, Result}
 use mathlib.Core.Path.{◌≡◌, refl, sym, ap, ◌∙◌}
 use mathlib.Core.Bool.{Bool, true, false}
 use mathlib.Core.List.{List, [], ◌∷◌, ◌++◌}
@@ -14,8 +15,6 @@ use Rattle.number.specs.Grammar.{sign_text}
 use Rattle.number.specs.Reading.{read_number}
 use Rattle.number.specs.Alike.{negated}
 use Rattle.number.specs.declared.Number.{Number}
-use Rattle.number.specs.declared.Reading.{Reading}
-use Rattle.number.specs.declared.Reading.TheVariants.{Is, Refused as NumberRefused}
 use Rattle.number.proofs.Operands.{sign_alone, leading_zero, marks_alike as number-marks}
 use Rattle.select.proofs.Chosen.{sign_no_word}
 use Rattle.pack_rules.specs.Syntax.{Rule}
@@ -24,65 +23,62 @@ use Rattle.pack_grammar.specs.Reader.PackAnswer.{Rules, Refused as PackRefused}
 use Rattle.pack_bare.specs.Bare.{is_bare, bare_rule}
 use Rattle.pack_bare.proofs.Bares.{bare_read}
 use Rattle.pack_reader.specs.Answer.{read_of, rules_of}
-use Rattle.pack_verdict.specs.declared.Read.{Read}
-use Rattle.pack_verdict.specs.declared.Read.TheVariants.{Rules as Counted, Refused as Bad}
 use Rattle.select.specs.Select.{selection}
-use Rattle.select.specs.declared.Selection.TheVariants.{Word, Refused}
 use Rattle.select_text.specs.Select.{select_number, select_rules, select_of}
 
 -- what the reader of packs returns, and the rules that it leaves, decide as its answer does
-good : (a : PackAnswer) (v : Read) (n : ℕ) (rules : List Rule) (x : Reading) → v ≡ read_of a → v ≡ Counted n → rules ≡ rules_of a → select_number rules x ≡ select_rules a x
+good : (a : PackAnswer) (v : Result ℕ Refusal) (n : ℕ) (rules : List Rule) (x : Result Number Refusal) → v ≡ read_of a → v ≡ Ok n → rules ≡ rules_of a → select_number rules x ≡ select_rules a x
 good (Rules rs) v n rules x e g r = ap (λ (l : List Rule). select_number l x) r
 good (PackRefused f) v n rules x e g r = never (cc)
 
-pub bad : (a : PackAnswer) (v : Read) (f : Refusal) (x : Reading) → v ≡ read_of a → v ≡ Bad f → Refused f ≡ select_rules a x
+pub bad : (a : PackAnswer) (v : Result ℕ Refusal) (f : Refusal) (x : Result Number Refusal) → v ≡ read_of a → v ≡ Err f → Err f ≡ select_rules a x
 bad (Rules rs) v f x e b = never (cc)
 bad (PackRefused g) v f x e b =
     let same : f ≡ g = cc in
-    ap Refused same
+    ap Err same
 
 -- where the pack is read: the number's word, or its refusal
-pub word : (a : PackAnswer) (v : Read) (n : ℕ) (rules : List Rule) (x : Number) (r : Reading) → v ≡ read_of a → v ≡ Counted n → rules ≡ rules_of a → r ≡ Is x
+pub word : (a : PackAnswer) (v : Result ℕ Refusal) (n : ℕ) (rules : List Rule) (x : Number) (r : Result Number Refusal) → v ≡ read_of a → v ≡ Ok n → rules ≡ rules_of a → r ≡ Ok x
     → selection rules x ≡ select_rules a r
 word a v n rules x r e g h k = ap (select_number rules) (sym k) ∙ good a v n rules r e g h
 
-pub unread : (a : PackAnswer) (v : Read) (n : ℕ) (rules : List Rule) (f : Refusal) (r : Reading) → v ≡ read_of a → v ≡ Counted n → rules ≡ rules_of a
-    → r ≡ NumberRefused f → Refused f ≡ select_rules a r
+pub unread : (a : PackAnswer) (v : Result ℕ Refusal) (n : ℕ) (rules : List Rule) (f : Refusal) (r : Result Number Refusal) → v ≡ read_of a → v ≡ Ok n → rules ≡ rules_of a
+    → r ≡ Err f → Err f ≡ select_rules a r
 unread a v n rules f r e g h k = ap (select_number rules) (sym k) ∙ good a v n rules r e g h
 
 -- ---- the pack that is `other:` alone
 
 -- it gives every number `other`, and what is no number its refusal
-pub bare_word : (x : Number) (r : Reading) → r ≡ Is x → Word Other ≡ select_number (bare_rule ∷ []) r
+pub bare_word : (x : Number) (r : Result Number Refusal) → r ≡ Ok x → Ok Other ≡ select_number (bare_rule ∷ []) r
 bare_word x r e = sym (ap (select_number (bare_rule ∷ [])) e)
 
-pub bare_unread : (f : Refusal) (r : Reading) → r ≡ NumberRefused f → Refused f ≡ select_number (bare_rule ∷ []) r
+pub bare_unread : (f : Refusal) (r : Result Number Refusal) → r ≡ Err f → Err f ≡ select_number (bare_rule ∷ []) r
 bare_unread f r e = sym (ap (select_number (bare_rule ∷ [])) e)
 
-pub by_bare : (pack : List ℕ) (r : Reading) → is_bare pack ≡ true → select_number (bare_rule ∷ []) r ≡ select_rules (read_pack pack) r
+pub by_bare : (pack : List ℕ) (r : Result Number Refusal) → is_bare pack ≡ true → select_number (bare_rule ∷ []) r ≡ select_rules (read_pack pack) r
 by_bare pack r e = sym (ap (λ (a : PackAnswer). select_rules a r) (bare_read pack e))
 
 -- ---- the order of the tests
 
 -- a refused pack decides, whatever the number
-pub pack_first : (pack number : List ℕ) (f : Refusal) → read_pack pack ≡ PackRefused f → select_of pack number ≡ Refused f
+pub pack_first : (pack number : List ℕ) (f : Refusal) → read_pack pack ≡ PackRefused f → select_of pack number ≡ Err f
 pack_first pack number f e = rw e
 
 -- then a refused number
-pub number_second : (pack number : List ℕ) (rules : List Rule) (f : Refusal) → read_pack pack ≡ Rules rules → read_number number ≡ NumberRefused f → select_of pack number ≡ Refused f
+pub number_second : (pack number : List ℕ) (rules : List Rule) (f : Refusal) → read_pack pack ≡ Rules rules → read_number number ≡ Err f → select_of pack number ≡ Err f
 number_second pack number rules f p n = rw (p, n)
 
 -- else the rules and the number decide
-pub rules_last : (pack number : List ℕ) (rules : List Rule) (x : Number) → read_pack pack ≡ Rules rules → read_number number ≡ Is x → select_of pack number ≡ selection rules x
+pub rules_last : (pack number : List ℕ) (rules : List Rule) (x : Number) → read_pack pack ≡ Rules rules → read_number number ≡ Ok x → select_of pack number ≡ selection rules x
 rules_last pack number rules x p n = rw (p, n)
 
 -- ---- texts that document 01 calls alike get the same answer
 
-negated_same : (rules : List Rule) (r : Reading) → select_number rules (negated r) ≡ select_number rules r
-negated_same rules (Is x) = sign_no_word rules x
-negated_same rules (NumberRefused f) = refl
+negated_same : (rules : List Rule) (r : Result Number Refusal) → select_number rules (negated r) ≡ select_number rules r
+negated_same rules (Ok x) = sign_no_word rules x
+negated_same rules (Err f) = refl
 
-by_reading : (a : PackAnswer) (r r' : Reading) → ((rules : List Rule) → select_number rules r ≡ select_number rules r') → select_rules a r ≡ select_rules a r'
+by_reading : (a : PackAnswer) (r r' : Result Number Refusal) → ((rules : List Rule) → select_number rules r ≡ select_number rules r') → select_rules a r ≡ select_rules a r'
 by_reading (Rules rules) r r' e = e rules
 by_reading (PackRefused f) r r' e = refl
 

@@ -1,23 +1,22 @@
 -- Document 01: "Selection tests pack, number, 27."
-use Rattle.std.specs.Prelude.{List, ℕ}
+use Rattle.answer.specs.declared.Keyword.{Keyword}
+use Rattle.number.specs.declared.Number.{Number}
+use Rattle.answer.specs.declared.Refusal.{Refusal}
+use Rattle.std.specs.Prelude.{Err, Ok, Result, List, ℕ}
 use Rattle.number.specs.Reading.{read_number}
-use Rattle.number.specs.declared.Reading.{Reading}
-use Rattle.number.specs.declared.Reading.TheVariants.{Is, Refused as NumberRefused}
 use Rattle.pack_rules.specs.Syntax.{Rule}
 use Rattle.pack_grammar.specs.Reader.{PackAnswer, read_pack}
 use Rattle.pack_grammar.specs.Reader.PackAnswer.{Rules, Refused as PackRefused}
 use Rattle.select.specs.Select.{selection}
-use Rattle.select.specs.declared.Selection.{Selection}
-use Rattle.select.specs.declared.Selection.TheVariants.{Refused}
 
-abbrev pub select_number : List Rule → Reading → Selection
-select_number rules (Is x) = selection rules x
-select_number rules (NumberRefused r) = Refused r
+abbrev pub select_number : List Rule → Result Number Refusal → Result Keyword Refusal
+select_number rules (Ok x) = selection rules x
+select_number rules (Err r) = Err r
 
-abbrev pub select_rules : PackAnswer → Reading → Selection
+abbrev pub select_rules : PackAnswer → Result Number Refusal → Result Keyword Refusal
 select_rules (Rules rules) x = select_number rules x
-select_rules (PackRefused r) x = Refused r
+select_rules (PackRefused r) x = Err r
 
 -- the word that a pack's text gives a number's text
-abbrev pub select_of : List ℕ → List ℕ → Selection
+abbrev pub select_of : List ℕ → List ℕ → Result Keyword Refusal
 select_of pack number = select_rules (read_pack pack) (read_number number)

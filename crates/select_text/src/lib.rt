@@ -7,23 +7,21 @@ ghost use Rattle.pack_bare.specs.Bare.{bare_rule};
 ghost use Rattle.select_text.specs.Select.{select_number, select_rules, select_of};
 
 use answer::Keyword;
-use number::Reading;
 use pack_rules::{ClauseEnds, Columns, Keywords, RangeEnds, RuleEnds};
 use pack_verdict::Read;
-use select::Selection;
 
 // By the pack that is `other:` alone.
-fn select_bare(reading: Reading) -> Selection
+fn select_bare(reading: Result<Number, Refusal>) -> Result<Keyword, Refusal>
     ensures { result ≡ select_number (bare_rule ∷ []) reading }
 {
     match reading {
-        Reading::Is(_) => Selection::Word(Keyword::Other),
-        Reading::Refused(why) => Selection::Refused(why),
+        Ok(_) => Ok(Keyword::Other),
+        Err(why) => Err(why),
     }
 }
 
 // By a pack that has to be read, into arrays that stand here and are lent from here.
-fn select_read(pack: &[u8], reading: Reading) -> Selection
+fn select_read(pack: &[u8], reading: Result<Number, Refusal>) -> Result<Keyword, Refusal>
     ensures { result ≡ select_rules (read_pack pack.now) reading }
 {
     let mut low: RangeEnds = [0; 2048];
@@ -42,18 +40,18 @@ fn select_read(pack: &[u8], reading: Reading) -> Selection
         &mut clauses,
     );
     match read {
-        Read::Rules(count) => match reading {
-            Reading::Is(x) => select::select_held(
+        Ok(count) => match reading {
+            Ok(x) => select::select_held(
                 &columns, &low, &high, &relations, &keyword, &clauses, count, x,
             ),
-            Reading::Refused(refusal) => Selection::Refused(refusal),
+            Err(refusal) => Err(refusal),
         },
-        Read::Refused(refusal) => Selection::Refused(refusal),
+        Err(refusal) => Err(refusal),
     }
 }
 
 // The word of the number, or the refusal of the pack, of the number, or 27, tested in this order.
-pub fn select(pack: &[u8], number: &[u8]) -> Selection
+pub fn select(pack: &[u8], number: &[u8]) -> Result<Keyword, Refusal>
     ensures { result ≡ select_of pack.now number.now }
 {
     let reading = number_text::read_number(number);

@@ -1,5 +1,6 @@
 -- Document 01, "The symbol record": what a record holds, for any bytes, and refusals 40 and 41.
-use Rattle.std.specs.Prelude.{Bool, not, false, List, [], ◌∷◌, ℕ, ltb, eqb, get_or, if◌then◌else◌}
+use Rattle.answer.specs.declared.Refusal.{Refusal}
+use Rattle.std.specs.Prelude.{Err, Ok, Result, Bool, not, false, List, [], ◌∷◌, ℕ, ltb, eqb, get_or, if◌then◌else◌}
 use Rattle.decimal.specs.Digits.{is_digit}
 use Rattle.utf8.specs.Utf8.{is_char}
 use Rattle.answer.specs.declared.SymbolRow.{SymbolRow}
@@ -9,8 +10,6 @@ use Rattle.records.specs.Entries as records
 use Rattle.records.specs.Entries.{Entry}
 use Rattle.symbols.specs.declared.Symbol.{Symbol}
 use Rattle.symbols.specs.declared.Symbol.TheVariants.{Minimum}
-use Rattle.symbols.specs.declared.Judged.{Judged}
-use Rattle.symbols.specs.declared.Judged.TheVariants.{Good, Refused}
 use Rattle.symbols.specs.Kinds.{upper_of, name_of, length_of}
 
 -- ---- "One byte of kind, then a body whose length the kind fixes; records run to the end."
@@ -55,15 +54,15 @@ bodies_fit es = records.every entry_fits es
 
 -- ---- the table
 
-abbrev pub refuse : SymbolRow → Judged
-refuse row = Refused (OfSymbols row)
+abbrev pub refuse : SymbolRow → Result (Unit {0}) Refusal
+refuse row = Err (OfSymbols row)
 
 -- 40 before 41, each over the whole record
-abbrev pub read_symbols : List ℕ → Judged
+abbrev pub read_symbols : List ℕ → Result (Unit {0}) Refusal
 read_symbols s =
     if broken s then refuse NotASymbolRecord else
     if twice (entries s) then refuse NotASymbolRecord else
-    if bodies_fit (entries s) then Good else
+    if bodies_fit (entries s) then (Ok tt) else
     refuse BadSymbolBody
 
 -- ---- the finder

@@ -33,20 +33,15 @@ pub enum Kind {
     Known(Symbol, usize),
 }
 
-#[derive(Clone, Copy)]
-pub enum Judged {
-    Good,
-    Refused(Refusal),
-}
 
 pub const STANDARD: [u8; 16] = [
     0x11, 0x2E, 0x21, 0x2C, 0x31, 0x2D, 0x41, 0x2B, 0x51, 0x25, 0x63, 0xE2, 0x80, 0xB0, 0x71, 0x01,
 ];
 
-fn refuse(row: SymbolRow) -> Judged
-    ensures { result ≡ Judged.Refused (Refusal.Symbols row) }
+fn refuse(row: SymbolRow) -> Result<(), Refusal>
+    ensures { result ≡ Err (Refusal.Symbols row) }
 {
-    Judged::Refused(Refusal::Symbols(row))
+    Err(Refusal::Symbols(row))
 }
 
 fn kind_of(b: u8) -> Kind
@@ -206,7 +201,7 @@ fn do_bodies_fit(s: &[u8]) -> bool
 }
 
 // Judges a symbol record.
-pub fn read_symbols(s: &[u8]) -> Judged
+pub fn read_symbols(s: &[u8]) -> Result<(), Refusal>
     ensures { result ≡ read_symbols s.now }
 {
     if is_broken(s) {
@@ -216,7 +211,7 @@ pub fn read_symbols(s: &[u8]) -> Judged
         return refuse(SymbolRow::NotASymbolRecord);
     }
     if do_bodies_fit(s) {
-        return Judged::Good;
+        return Ok(());
     }
     refuse(SymbolRow::BadSymbolBody)
 }

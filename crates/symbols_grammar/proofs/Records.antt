@@ -1,4 +1,6 @@
 -- The record that is read is the record that the bytes spell; rows 40 and 41; the body that the finder gives is the symbol's.
+use Rattle.std.specs.Prelude.{Ok, Result}
+use Rattle.answer.specs.declared.Refusal.{Refusal}
 use mathlib.Core.Path.{◌≡◌, refl, sym, ap, subst, ◌∙◌}
 use mathlib.Core.Bool.{true, false}
 use mathlib.Core.List.{List}
@@ -16,8 +18,6 @@ use Rattle.symbols.specs.declared.Symbol.{Symbol}
 use Rattle.symbols.specs.declared.Symbol.TheVariants.{Decimal, Group, Minus, Plus, Percent, Permille, Minimum}
 use Rattle.symbols.specs.declared.Kind.{Kind}
 use Rattle.symbols.specs.declared.Kind.TheVariants.{Unknown, Known}
-use Rattle.symbols.specs.declared.Judged.{Judged}
-use Rattle.symbols.specs.declared.Judged.TheVariants.{Good}
 use Rattle.symbols.specs.Kinds.{upper_of, longest, kind_with, kind_of, name_of, length_in, length_of}
 use Rattle.symbols.specs.Entries.{entries, broken, holds, body_in, twice, body_fits, bodies_fit, refuse, read_symbols, symbol_in, standard_record}
 use Rattle.symbols.proofs.KindLaws.{kind_at, known_byte, longest_four}
@@ -90,7 +90,7 @@ read_spells s e = spells_as fixed_entry (read-fixed length_of s e)
 
 -- ---- rows 40 and 41: "given exactly when"
 
-pub verdict_given : (s : List ℕ) {r : Judged} → Verdict s r → read_symbols s ≡ r
+pub verdict_given : (s : List ℕ) {r : Result (Unit {0}) Refusal} → Verdict s r → read_symbols s ≡ r
 verdict_given s (no_record f) =
     let k : broken s ≡ true = tested (broken s) (λ k. k) (λ k. absurd (f (entries s) (read_spells s k))) in
     rw k
@@ -108,7 +108,7 @@ verdict_given s (good es w t f) =
 pub verdict_found : (s : List ℕ) → Verdict s (read_symbols s)
 verdict_found s = tested (broken s) (λ k. made (no_record (λ es w. not_both k (spells_read s es w).1))) whole
   where
-    made : {r : Judged} → Verdict s r → Verdict s (read_symbols s)
+    made : {r : Result (Unit {0}) Refusal} → Verdict s r → Verdict s (read_symbols s)
     made {r} v = subst (Verdict s) (sym (verdict_given s v)) v
 
     whole : broken s ≡ false → Verdict s (read_symbols s)
@@ -130,20 +130,20 @@ record Passed (es : List Entry) : Type 0 where
   apart : Twice es → ⊥
   bodies : (e : Entry) → Among e es → HasBody e
 
-passed : (s : List ℕ) (es : List Entry) → read_symbols s ≡ Good → Spells s es → Passed es
+passed : (s : List ℕ) (es : List Entry) → read_symbols s ≡ Ok tt → Spells s es → Passed es
 passed s es g w = by (verdict_found s) g
   where
-    by : {r : Judged} → Verdict s r → r ≡ Good → Passed es
+    by : {r : Result (Unit {0}) Refusal} → Verdict s r → r ≡ Ok tt → Passed es
     by (no_record f) e = absurd (f es w)
     by (symbol_twice ds v t) e = never (cc)
     by (bad_body ds v t d a n) e = never (cc)
     by (good ds v t f) e = subst Passed (sym (spells_read s ds v).0 ∙ (spells_read s es w).0) (record { apart = t; bodies = f })
 
 -- an entry's body is found by its symbol
-found_good : (s : List ℕ) (es : List Entry) (e : Entry) (y : Symbol) → read_symbols s ≡ Good → Spells s es → Among e es → Of y e → body_in y es ≡ e.body
+found_good : (s : List ℕ) (es : List Entry) (e : Entry) (y : Symbol) → read_symbols s ≡ Ok tt → Spells s es → Among e es → Of y e → body_in y es ≡ e.body
 found_good s es e y g w a q = rw q at (body_found name_of a (passed s es g w).apart)
 
-pub standard_good : read_symbols standard_record ≡ Good
+pub standard_good : read_symbols standard_record ≡ Ok tt
 unfolding kind_of
 standard_good = refl
 
@@ -162,7 +162,7 @@ standard_holds Percent = refl
 standard_holds Permille = refl
 standard_holds Minimum = refl
 
-module _ (house : List ℕ) (g : read_symbols house ≡ Good) (y : Symbol) where
+module _ (house : List ℕ) (g : read_symbols house ≡ Ok tt) (y : Symbol) where
   symbol_given : {b : List ℕ} → SymbolIs house y b → symbol_in house standard_record y ≡ b
   symbol_given (own es w e a q) = rw ((spells_read house es w).0, (holds_told name_of (upper_of y) es).1 (record { entry = e; among = a; its = q })) (found_good house es e y g w a q)
   symbol_given (standard es ds w f v d a q) =
@@ -187,11 +187,11 @@ module _ (house : List ℕ) (g : read_symbols house ≡ Good) (y : Symbol) where
       w : Spells house (entries house)
       w = read_spells house (tested (broken house) (λ k. never (differ (sym g ∙ rw k))) (λ k. k))
         where
-          differ : Good ≡ refuse NotASymbolRecord → ◌≡◌ {A = ℕ} 0 1
+          differ : (Ok tt) ≡ refuse NotASymbolRecord → ◌≡◌ {A = ℕ} 0 1
           differ e = cc
 
 -- of a good house record the finder gives each symbol's body, and no other
-pub symbol_is : (house : List ℕ) → read_symbols house ≡ Good → (y : Symbol) (b : List ℕ) → SymbolIs house y b ↔ (symbol_in house standard_record y ≡ b)
+pub symbol_is : (house : List ℕ) → read_symbols house ≡ Ok tt → (y : Symbol) (b : List ℕ) → SymbolIs house y b ↔ (symbol_in house standard_record y ≡ b)
 symbol_is house g y b = (symbol_given house g y, λ e. subst (SymbolIs house y) e (symbol_found house g y))
 
 -- It is the body of an entry of the symbol in a good record.
@@ -202,7 +202,7 @@ record Found (y : Symbol) (b : List ℕ) : Type 0 where
   is_entry : IsEntry entry
   has : HasBody entry
 
-found : (house : List ℕ) (y : Symbol) → read_symbols house ≡ Good → Found y (symbol_in house standard_record y)
+found : (house : List ℕ) (y : Symbol) → read_symbols house ≡ Ok tt → Found y (symbol_in house standard_record y)
 found house y g = by (symbol_found house g y)
   where
     by : {b : List ℕ} → SymbolIs house y b → Found y b
@@ -211,13 +211,13 @@ found house y g = by (symbol_found house g y)
         record { entry = d; its = refl; of = q; is_entry = all_among v.all a; has = (passed standard_record ds standard_good v).bodies d a }
 
 -- it has at most four bytes
-pub found_four : (house : List ℕ) (y : Symbol) → read_symbols house ≡ Good → length (symbol_in house standard_record y) ≤ 4
+pub found_four : (house : List ℕ) (y : Symbol) → read_symbols house ≡ Ok tt → length (symbol_in house standard_record y) ≤ 4
 found_four house y g =
     let r = found house y g in
     omega (arith, ap length r.its, r.is_entry.most, longest_four r.is_entry.symbol)
 
 -- a symbol that prints is one code point of UTF-8 that is no ASCII digit
-pub found_fits : (house : List ℕ) (y : Symbol) → read_symbols house ≡ Good → (y ≡ Minimum → ⊥) → body_fits (symbol_in house standard_record y) ≡ true
+pub found_fits : (house : List ℕ) (y : Symbol) → read_symbols house ≡ Ok tt → (y ≡ Minimum → ⊥) → body_fits (symbol_in house standard_record y) ≡ true
 found_fits house y g n =
     let r = found house y g in
     (body_told (symbol_in house standard_record y)).1 (subst IsBody (sym r.its) (by r.has r.of))
@@ -236,7 +236,7 @@ found_fits house y g n =
         same_upper Minimum k = refl
 
 -- the minimum grouping digits are one byte, 01 to 04
-pub found_minimum : (house : List ℕ) → read_symbols house ≡ Good
+pub found_minimum : (house : List ℕ) → read_symbols house ≡ Ok tt
     → let b = symbol_in house standard_record Minimum in (length b ≡ 1) × (1 ≤ get_or b 0 0) × (get_or b 0 0 ≤ 4)
 found_minimum house g =
     let r = found house Minimum g in

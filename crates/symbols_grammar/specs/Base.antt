@@ -1,12 +1,11 @@
 -- The symbol record as document 01 has it, without document 02's kind 71: what the theorem that nothing else changed is about.
-use Rattle.std.specs.Prelude.{List, [], ◌∷◌, Bool, ◌≡◌, ℕ, if◌then◌else◌}
+use Rattle.answer.specs.declared.Refusal.{Refusal}
+use Rattle.std.specs.Prelude.{Ok, Result, List, [], ◌∷◌, Bool, ◌≡◌, ℕ, if◌then◌else◌}
 use Rattle.answer.specs.declared.SymbolRow.TheVariants.{NotASymbolRecord, BadSymbolBody}
 use Rattle.records.specs.Entries as records
 use Rattle.records.specs.Entries.{Entry, without}
 use Rattle.records.specs.Spelled.{Among}
 use Rattle.symbols.specs.declared.Symbol.{Symbol}
-use Rattle.symbols.specs.declared.Judged.{Judged}
-use Rattle.symbols.specs.declared.Judged.TheVariants.{Good}
 use Rattle.symbols.specs.Kinds.{upper_of, name_of, length_of}
 use Rattle.symbols.specs.Entries.{entries, body_fits, refuse}
 
@@ -24,11 +23,11 @@ base_entries s = records.entries base_length s
 abbrev pub base_fits : Entry → Bool
 base_fits e = body_fits e.body
 
-abbrev pub base_symbols : List ℕ → Judged
+abbrev pub base_symbols : List ℕ → Result (Unit {0}) Refusal
 base_symbols s =
     if records.broken base_length s then refuse NotASymbolRecord else
     if records.twice name_of (base_entries s) then refuse NotASymbolRecord else
-    if records.every base_fits (base_entries s) then Good else
+    if records.every base_fits (base_entries s) then (Ok tt) else
     refuse BadSymbolBody
 
 -- "Standard record: 11 2E 21 2C 31 2D 41 2B 51 25 63 E2 80 B0."

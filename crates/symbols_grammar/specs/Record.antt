@@ -1,6 +1,7 @@
 -- Document 01, "The symbol record": what a record is, on bytes, which answer it gets, and which body a symbol has. "One byte of kind, then a body whose
 -- length the kind fixes; records run to the end."
-use Rattle.std.specs.Prelude.{◌≡◌, true, false, List, ℕ, ◌+◌, ◌*◌, ◌≤◌, length, get_or}
+use Rattle.answer.specs.declared.Refusal.{Refusal}
+use Rattle.std.specs.Prelude.{Ok, Result, ◌≡◌, true, false, List, ℕ, ◌+◌, ◌*◌, ◌≤◌, length, get_or}
 use Rattle.decimal.specs.Digits.{is_digit}
 use Rattle.utf8.specs.Scalar.{is_scalar, spell}
 use Rattle.answer.specs.declared.SymbolRow.TheVariants.{NotASymbolRecord, BadSymbolBody}
@@ -9,8 +10,6 @@ use Rattle.records.specs.Spelled as records
 use Rattle.records.specs.Spelled.{Among}
 use Rattle.symbols.specs.declared.Symbol.{Symbol}
 use Rattle.symbols.specs.declared.Symbol.TheVariants.{Minimum}
-use Rattle.symbols.specs.declared.Judged.{Judged}
-use Rattle.symbols.specs.declared.Judged.TheVariants.{Good}
 use Rattle.symbols.specs.Kinds.{upper_of, longest, name_of}
 use Rattle.symbols.specs.Entries.{refuse, standard_record}
 
@@ -50,13 +49,13 @@ pub data HasBody (e : Entry) : Type 0 where
   text : (Of Minimum e → ⊥) → IsBody e.body → HasBody e
   minimum : Of Minimum e → IsMinimum e.body → HasBody e
 
-pub data Verdict (s : List ℕ) : Judged → Type 0 where
+pub data Verdict (s : List ℕ) : Result (Unit {0}) Refusal → Type 0 where
   -- 40: "unknown kind, body cut short, symbol twice"
   no_record : ((es : List Entry) → Spells s es → ⊥) → Verdict s (refuse NotASymbolRecord)
   symbol_twice : (es : List Entry) → Spells s es → Twice es → Verdict s (refuse NotASymbolRecord)
   -- 41: "body not as above"
   bad_body : (es : List Entry) → Spells s es → (Twice es → ⊥) → (e : Entry) → Among e es → (HasBody e → ⊥) → Verdict s (refuse BadSymbolBody)
-  good : (es : List Entry) → Spells s es → (Twice es → ⊥) → ((e : Entry) → Among e es → HasBody e) → Verdict s Good
+  good : (es : List Entry) → Spells s es → (Twice es → ⊥) → ((e : Entry) → Among e es → HasBody e) → Verdict s (Ok tt)
 
 -- "Each symbol is taken from the standard record when the house record lacks it."
 pub data SymbolIs (house : List ℕ) (y : Symbol) : List ℕ → Type 0 where

@@ -10,7 +10,7 @@ ghost use Rattle.std.specs.Prelude.{◌≤◌, length};
 use decimal::cut;
 use std::io;
 use std::io::Read;
-use symbols::{Judged, Symbol};
+use symbols::Symbol;
 
 // How many bytes stand before the end of the line.
 fn line_len(s: &[u8]) -> usize
@@ -30,10 +30,10 @@ fn wide(x: u8) -> u64 {
     x as u64
 }
 
-fn print_judged(rt: &impl Print, j: Judged) -> io::Result<()> {
+fn print_judged(rt: &impl Print, j: Result<(), Refusal>) -> io::Result<()> {
     match j {
-        Judged::Good => print!(rt; "good"),
-        Judged::Refused(refusal) => {
+        Ok(()) => print!(rt; "good"),
+        Err(refusal) => {
             let number = wide(answer_table::number(refusal));
             print!(rt; "! {number}")
         }

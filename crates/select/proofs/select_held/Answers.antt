@@ -1,7 +1,7 @@
 -- `select::select_held` answers `selection`: the bits say how many rules are met and which come first (Selections.antt).
+use Rattle.std.specs.Prelude.{Ok}
 use native.Mathlib.Omega.{arith}
 use mathlib.Core.Path.{ap, ◌∙◌}
-use Rattle.select.specs.declared.Selection.TheVariants.{Word}
 use Rattle.pack_rules.specs.Held.{Pack, lent}
 use Rattle.pack_rules.proofs.Stretches.{Sized}
 use Rattle.select.proofs.Selections.{Met, met, first_small, none_met, one_met, second_small, two_met}
@@ -47,7 +47,7 @@ keyword_at-requires c =
 pub returns-then-met-eq1 : goal.returns-then-met-eq1
 returns-then-met-eq1 c =
     let x = c.args.x in
-    ap Word c.keyword_at.ensures ∙ one_met (pack c.before.before.before) x c.met_mask-m.result (declared c.before.before.before) (told c.before.before.before) c.if-met-eq1.true
+    ap Ok c.keyword_at.ensures ∙ one_met (pack c.before.before.before) x c.met_mask-m.result (declared c.before.before.before) (told c.before.before.before) c.if-met-eq1.true
 
 pub overflow_add-behind : goal.overflow_add-behind
 overflow_add-behind c =
