@@ -1,7 +1,7 @@
 // The search for one number, by the levels that it asks.
 ghost use Rattle.std.specs.Prelude.{◌≡◌, true, false, ℕ, ◌+◌, ◌≤◌, ◌<◌, get_or};
 ghost use Rattle.pack_rules.specs.Room.{relation_room};
-ghost use Rattle.pack_rules.specs.Stretch.{table};
+ghost use Rattle.pack_rules.specs.Stretch.{table_of};
 ghost use Rattle.check_laws.specs.Seek.{Least};
 ghost use Rattle.check_laws.specs.Fast.{ends, passes_all};
 ghost use Rattle.check_laws.specs.Levels.{own, below, levelled, levels, window};
@@ -17,7 +17,7 @@ use check_runs::clause::{clause_run, ends_of, passes_at, size_of};
 use check_runs::marks::{list_level, mark_levels};
 use check_table::level::LEVELS;
 use check_table::{Built, find, level};
-use pack_rules::{Columns, RangeEnds};
+use pack_rules::Pack;
 
 // The level of what is asked of the number itself, and that of moduli that fit no level.
 const WINDOW: usize = 7;
@@ -27,21 +27,19 @@ const STRAY: usize = 8;
 // Tries each number in turn. No two clauses of a pack that was read come here: together they have at
 // most 16 relations, whose moduli are powers of ten, with 16 ranges each, and a segment of the table ends
 // where a range ends or begins or where its level ends.
-fn try_each<'a>(
-    columns: &'a Columns,
-    low: &'a RangeEnds,
-    high: &'a RangeEnds,
+fn try_each(
+    pack: &Pack,
     s: Span,
     q: Query,
     lo: u64,
     hi: u64,
 ) -> u64
     requires { Room q hi × (lo ≤ hi) × (s.to ≤ relation_room) × (s.stop ≤ relation_room) }
-    ensures { Least (passes_all q (joined_in (table columns.now low.now high.now) s)) lo hi result }
+    ensures { Least (passes_all q (joined_in (table_of pack.now) s)) lo hi result }
 {
     let mut x = lo;
     while x < hi {
-        if passes_at(columns, low, high, s, q, x) {
+        if passes_at(pack, s, q, x) {
             return x;
         }
         x += 1;
@@ -50,18 +48,16 @@ fn try_each<'a>(
 }
 
 // The least number that the relations of the number itself allow.
-fn in_window<'a>(
-    columns: &'a Columns,
-    low: &'a RangeEnds,
-    high: &'a RangeEnds,
+fn in_window(
+    pack: &Pack,
     s: Span,
     q: Query,
     tiers: &[usize; KEPT],
     lo: u64,
     hi: u64,
 ) -> u64
-    requires { Fit q × Room q hi × (lo ≤ hi) × (s.to ≤ relation_room) × (s.stop ≤ relation_room) × (size_of s ≤ kept_room) × Told (table columns.now low.now high.now) s q tiers.now }
-    ensures { Least (own q (joined_in (table columns.now low.now high.now) s) window) lo hi result }
+    requires { Fit q × Room q hi × (lo ≤ hi) × (s.to ≤ relation_room) × (s.stop ≤ relation_room) × (size_of s ≤ kept_room) × Told (table_of pack.now) s q tiers.now }
+    ensures { Least (own q (joined_in (table_of pack.now) s) window) lo hi result }
 {
     let mut list: [usize; KEPT] = [0; KEPT];
     let count = list_level(tiers, size_of(s), WINDOW, &mut list);
@@ -70,7 +66,7 @@ fn in_window<'a>(
     let mut p = lo;
     while p < hi {
         let run = clause_run(
-            columns, low, high, s, q, &list, count, WINDOW, p, &mut says, &mut stop,
+            pack, s, q, &list, count, WINDOW, p, &mut says, &mut stop,
         );
         if run.says {
             return p;
@@ -81,10 +77,8 @@ fn in_window<'a>(
 }
 
 // The least of them that passes the levels of the table.
-fn by_table<'a>(
-    columns: &'a Columns,
-    low: &'a RangeEnds,
-    high: &'a RangeEnds,
+fn by_table(
+    pack: &Pack,
     s: Span,
     q: Query,
     tiers: &[usize; KEPT],
@@ -94,28 +88,26 @@ fn by_table<'a>(
     lo: u64,
     hi: u64,
 ) -> u64
-    requires fit { Fit q × Room q hi × (lo ≤ hi) × (s.to ≤ relation_room) × (s.stop ≤ relation_room) × (size_of s ≤ kept_room) × Told (table columns.now low.now high.now) s q tiers.now }
-    requires s_value { levelled q (joined_in (table columns.now low.now high.now) s) ≡ true }
+    requires fit { Fit q × Room q hi × (lo ≤ hi) × (s.to ≤ relation_room) × (s.stop ≤ relation_room) × (size_of s ≤ kept_room) × Told (table_of pack.now) s q tiers.now }
+    requires s_value { levelled q (joined_in (table_of pack.now) s) ≡ true }
     requires laid { Laid starts.now ends.now at.now levels }
-    requires tabled { Tabled (below q (joined_in (table columns.now low.now high.now) s)) starts.now ends.now at.now levels }
-    ensures { Least (passes_all q (joined_in (table columns.now low.now high.now) s)) lo hi result }
+    requires tabled { Tabled (below q (joined_in (table_of pack.now) s)) starts.now ends.now at.now levels }
+    ensures { Least (passes_all q (joined_in (table_of pack.now) s)) lo hi result }
 {
     let mut list: [usize; KEPT] = [0; KEPT];
     let count = list_level(tiers, size_of(s), WINDOW, &mut list);
     let mut says = [false; KEPT];
     let mut stop: [u64; KEPT] = [0; KEPT];
     let f = find::find(
-        columns, low, high, s, q, &list, count, WINDOW, starts, ends, at, LEVELS, lo, hi,
+        pack, s, q, &list, count, WINDOW, starts, ends, at, LEVELS, lo, hi,
         &mut says, &mut stop,
     );
     f.at
 }
 
 // Makes the table and searches by it.
-fn in_table<'a>(
-    columns: &'a Columns,
-    low: &'a RangeEnds,
-    high: &'a RangeEnds,
+fn in_table(
+    pack: &Pack,
     s: Span,
     q: Query,
     tiers: &[usize; KEPT],
@@ -123,18 +115,16 @@ fn in_table<'a>(
     lo: u64,
     hi: u64,
 ) -> u64
-    requires fit { Fit q × Room q hi × (lo ≤ hi) × (s.to ≤ relation_room) × (s.stop ≤ relation_room) × (size_of s ≤ kept_room) × Told (table columns.now low.now high.now) s q tiers.now }
-    requires s_value { levelled q (joined_in (table columns.now low.now high.now) s) ≡ true }
-    requires by_index { (j : ℕ) → j < 9 → get_or asked.now j false ≡ false → (x : ℕ) → own q (joined_in (table columns.now low.now high.now) s) j x ≡ true }
-    ensures { Least (passes_all q (joined_in (table columns.now low.now high.now) s)) lo hi result }
+    requires fit { Fit q × Room q hi × (lo ≤ hi) × (s.to ≤ relation_room) × (s.stop ≤ relation_room) × (size_of s ≤ kept_room) × Told (table_of pack.now) s q tiers.now }
+    requires s_value { levelled q (joined_in (table_of pack.now) s) ≡ true }
+    requires by_index { (j : ℕ) → j < 9 → get_or asked.now j false ≡ false → (x : ℕ) → own q (joined_in (table_of pack.now) s) j x ≡ true }
+    ensures { Least (passes_all q (joined_in (table_of pack.now) s)) lo hi result }
 {
     let mut starts: Segments = [0; ROOM];
     let mut ends: Segments = [0; ROOM];
     let mut at: LevelPlaces = [0; 8];
     let b = level::build(
-        columns,
-        low,
-        high,
+        pack,
         s,
         q,
         tiers,
@@ -144,9 +134,9 @@ fn in_table<'a>(
         &mut at,
     );
     match b {
-        Built::Stands => by_table(columns, low, high, s, q, tiers, &starts, &ends, &at, lo, hi),
+        Built::Stands => by_table(pack, s, q, tiers, &starts, &ends, &at, lo, hi),
         Built::Empty => hi,
-        Built::Full => try_each(columns, low, high, s, q, lo, hi),
+        Built::Full => try_each(pack, s, q, lo, hi),
     }
 }
 
@@ -166,10 +156,8 @@ fn asks_remainder(asked: &[bool; 9]) -> bool
 
 // The least number by the levels that the clause asks. What is asked of the number itself comes first:
 // where it leaves no number, or its least one passes, there is no table.
-fn by_window<'a>(
-    columns: &'a Columns,
-    low: &'a RangeEnds,
-    high: &'a RangeEnds,
+fn by_window(
+    pack: &Pack,
     s: Span,
     q: Query,
     tiers: &[usize; KEPT],
@@ -177,12 +165,12 @@ fn by_window<'a>(
     lo: u64,
     hi: u64,
 ) -> u64
-    requires fit { Fit q × Room q hi × (lo ≤ hi) × (s.to ≤ relation_room) × (s.stop ≤ relation_room) × (size_of s ≤ kept_room) × Told (table columns.now low.now high.now) s q tiers.now }
-    requires s_value { levelled q (joined_in (table columns.now low.now high.now) s) ≡ true }
-    requires by_index { (j : ℕ) → j < 9 → get_or asked.now j false ≡ false → (x : ℕ) → own q (joined_in (table columns.now low.now high.now) s) j x ≡ true }
-    ensures { Least (passes_all q (joined_in (table columns.now low.now high.now) s)) lo hi result }
+    requires fit { Fit q × Room q hi × (lo ≤ hi) × (s.to ≤ relation_room) × (s.stop ≤ relation_room) × (size_of s ≤ kept_room) × Told (table_of pack.now) s q tiers.now }
+    requires s_value { levelled q (joined_in (table_of pack.now) s) ≡ true }
+    requires by_index { (j : ℕ) → j < 9 → get_or asked.now j false ≡ false → (x : ℕ) → own q (joined_in (table_of pack.now) s) j x ≡ true }
+    ensures { Least (passes_all q (joined_in (table_of pack.now) s)) lo hi result }
 {
-    let p = in_window(columns, low, high, s, q, tiers, lo, hi);
+    let p = in_window(pack, s, q, tiers, lo, hi);
     if hi <= p {
         return hi;
     }
@@ -190,36 +178,34 @@ fn by_window<'a>(
         return p;
     }
     if lo < p {
-        if passes_at(columns, low, high, s, q, p) {
+        if passes_at(pack, s, q, p) {
             return p;
         }
     }
-    in_table(columns, low, high, s, q, tiers, asked, p, hi)
+    in_table(pack, s, q, tiers, asked, p, hi)
 }
 
 // The same, or where the levels do not serve by trying each.
-fn by_levels<'a>(
-    columns: &'a Columns,
-    low: &'a RangeEnds,
-    high: &'a RangeEnds,
+fn by_levels(
+    pack: &Pack,
     s: Span,
     q: Query,
     lo: u64,
     hi: u64,
 ) -> u64
     requires { Fit q × Room q hi × (lo ≤ hi) × (s.to ≤ relation_room) × (s.stop ≤ relation_room) }
-    ensures { Least (passes_all q (joined_in (table columns.now low.now high.now) s)) lo hi result }
+    ensures { Least (passes_all q (joined_in (table_of pack.now) s)) lo hi result }
 {
     if KEPT < size_of(s) {
-        return try_each(columns, low, high, s, q, lo, hi);
+        return try_each(pack, s, q, lo, hi);
     }
     let mut asked = [false; 9];
     let mut tiers: [usize; KEPT] = [0; KEPT];
-    mark_levels(columns, low, high, s, q, &mut asked, &mut tiers);
+    mark_levels(pack, s, q, &mut asked, &mut tiers);
     if asked[STRAY] {
-        return try_each(columns, low, high, s, q, lo, hi);
+        return try_each(pack, s, q, lo, hi);
     }
-    by_window(columns, low, high, s, q, &tiers, &asked, lo, hi)
+    by_window(pack, s, q, &tiers, &asked, lo, hi)
 }
 
 // The first number from lo on whose last digit passes.
@@ -235,24 +221,22 @@ fn first(q: Query, lo: u64) -> u64
 
 // The least number from lo on and below hi that passes what the clause asks, or hi. The first number is
 // tried before the levels are looked at: a search that asks little ends there.
-pub fn least<'a>(
-    columns: &'a Columns,
-    low: &'a RangeEnds,
-    high: &'a RangeEnds,
+pub fn least(
+    pack: &Pack,
     s: Span,
     q: Query,
     lo: u64,
     hi: u64,
 ) -> u64
     requires { Fit q × Room q hi × (lo ≤ hi) × (s.to ≤ relation_room) × (s.stop ≤ relation_room) }
-    ensures { Least (passes_all q (joined_in (table columns.now low.now high.now) s)) lo hi result }
+    ensures { Least (passes_all q (joined_in (table_of pack.now) s)) lo hi result }
 {
     let x = first(q, lo);
     if hi <= x {
         return hi;
     }
-    if passes_at(columns, low, high, s, q, x) {
+    if passes_at(pack, s, q, x) {
         return x;
     }
-    by_levels(columns, low, high, s, q, lo, hi)
+    by_levels(pack, s, q, lo, hi)
 }

@@ -1,7 +1,7 @@
 // The levels that a clause asks are marked, and the relations of one level listed.
 ghost use Rattle.std.specs.Prelude.{◌≡◌, true, false, List, ℕ, ◌≤◌, ◌<◌, length, get_or, if◌then◌else◌};
 ghost use Rattle.pack_rules.specs.Room.{relation_room};
-ghost use Rattle.pack_rules.specs.Stretch.{relation_by, table};
+ghost use Rattle.pack_rules.specs.Stretch.{relation_by, table_of};
 ghost use Rattle.check_laws.specs.Levels.{own, levelled};
 ghost use Rattle.check_laws.specs.Read.{joined_in};
 ghost use Rattle.check_laws.specs.Ready.{Fit};
@@ -12,7 +12,7 @@ use crate::{KEPT, clause};
 use check_laws::{Query, Span};
 use check_relation::relation;
 use decimal::num::wide;
-use pack_rules::{Columns, RangeEnds, Single, single_at};
+use pack_rules::{Pack, Single, single_at};
 
 // The level that is told of a relation that is not asked.
 const UNASKED: usize = 9;
@@ -56,10 +56,8 @@ fn mark_of(q: Query, s: Single, asked: &mut [bool; 9]) -> usize
 }
 
 // Marks the levels that the clause asks, and tells that of each relation.
-pub fn mark_levels<'a>(
-    columns: &'a Columns,
-    low: &'a RangeEnds,
-    high: &'a RangeEnds,
+pub fn mark_levels(
+    pack: &Pack,
     s: Span,
     q: Query,
     asked: &mut [bool; 9],
@@ -67,16 +65,16 @@ pub fn mark_levels<'a>(
 )
     requires fit { Fit q }
     requires to_le_relation_room { (s.to ≤ relation_room) × (s.stop ≤ relation_room) × (size_of s ≤ kept_room) × (length tiers.old ≡ kept_room) }
-    ensures told { Told (table columns.now low.now high.now) s q tiers.new }
-    ensures by_index { (j : ℕ) → j < 9 → get_or asked.new j false ≡ false → (x : ℕ) → own q (joined_in (table columns.now low.now high.now) s) j x ≡ true }
-    ensures s_value { get_or asked.new 8 false ≡ false → levelled q (joined_in (table columns.now low.now high.now) s) ≡ true }
+    ensures told { Told (table_of pack.now) s q tiers.new }
+    ensures by_index { (j : ℕ) → j < 9 → get_or asked.new j false ≡ false → (x : ℕ) → own q (joined_in (table_of pack.now) s) j x ≡ true }
+    ensures s_value { get_or asked.new 8 false ≡ false → levelled q (joined_in (table_of pack.now) s) ≡ true }
 {
     mark_digit(q, asked);
     let size = clause::size_of(s);
     let mut k = 0;
     while k < size {
         let j = clause::place_of(s, k);
-        tiers[k] = mark_of(q, single_at(columns, j), asked);
+        tiers[k] = mark_of(q, single_at(pack, j), asked);
         k += 1;
     }
 }

@@ -1,7 +1,7 @@
 // The least number that the relations of one level allow and that passes the levels below it.
 ghost use Rattle.std.specs.Prelude.{◌≡◌, ◌≤◌, ◌<◌, min};
 ghost use Rattle.pack_rules.specs.Room.{relation_room};
-ghost use Rattle.pack_rules.specs.Stretch.{table};
+ghost use Rattle.pack_rules.specs.Stretch.{table_of};
 ghost use Rattle.check_laws.specs.Levels.{own, below};
 ghost use Rattle.check_laws.specs.Read.{joined_in};
 ghost use Rattle.check_laws.specs.Ready.{Fit, Room};
@@ -15,14 +15,12 @@ use check_next::{LevelPlaces, Segments, next};
 use check_runs::KEPT;
 use check_runs::clause::clause_run;
 use decimal::num::lesser;
-use pack_rules::{Columns, RangeEnds};
+use pack_rules::Pack;
 
 // Looks at the run of p. Where the relations of the level do not hold, its end is where to go on; where
 // they do, the next number of the levels below j is: it is found where it lies in the run.
-fn look<'a>(
-    columns: &'a Columns,
-    low: &'a RangeEnds,
-    high: &'a RangeEnds,
+fn look(
+    pack: &Pack,
     s: Span,
     q: Query,
     list: &[usize; KEPT],
@@ -37,14 +35,14 @@ fn look<'a>(
     says: &mut [bool; KEPT],
     stop: &mut [u64; KEPT],
 ) -> Found
-    requires fit { Fit q × Room q end × (p < end) × (s.to ≤ relation_room) × (s.stop ≤ relation_room) × (size_of s ≤ kept_room) × Listed (table columns.now low.now high.now) s q level list.now count }
+    requires fit { Fit q × Room q end × (p < end) × (s.to ≤ relation_room) × (s.stop ≤ relation_room) × (size_of s ≤ kept_room) × Listed (table_of pack.now) s q level list.now count }
     requires laid { Laid starts.now ends.now at.now j }
-    requires tabled { Tabled (below q (joined_in (table columns.now low.now high.now) s)) starts.now ends.now at.now j }
-    requires kept { Kept (table columns.now low.now high.now) s q level p says.old stop.old }
-    ensures looked { Looked (own q (joined_in (table columns.now low.now high.now) s) level) (below q (joined_in (table columns.now low.now high.now) s) j) p end result.at result.stop }
-    ensures kept_2 { Kept (table columns.now low.now high.now) s q level p says.new stop.new }
+    requires tabled { Tabled (below q (joined_in (table_of pack.now) s)) starts.now ends.now at.now j }
+    requires kept { Kept (table_of pack.now) s q level p says.old stop.old }
+    ensures looked { Looked (own q (joined_in (table_of pack.now) s) level) (below q (joined_in (table_of pack.now) s) j) p end result.at result.stop }
+    ensures kept_2 { Kept (table_of pack.now) s q level p says.new stop.new }
 {
-    let run = clause_run(columns, low, high, s, q, list, count, level, p, says, stop);
+    let run = clause_run(pack, s, q, list, count, level, p, says, stop);
     if run.says {
         return Found {
             at: next(starts, ends, at, j, p),
@@ -60,10 +58,8 @@ fn look<'a>(
 // The least number from `from` on and below `end` that the relations of the level allow and that passes
 // the levels below j, and up to where the relations of the level hold; or `end`, and past the numbers
 // that were looked at.
-pub fn find<'a>(
-    columns: &'a Columns,
-    low: &'a RangeEnds,
-    high: &'a RangeEnds,
+pub fn find(
+    pack: &Pack,
     s: Span,
     q: Query,
     list: &[usize; KEPT],
@@ -78,17 +74,17 @@ pub fn find<'a>(
     says: &mut [bool; KEPT],
     stop: &mut [u64; KEPT],
 ) -> Found
-    requires fit { Fit q × Room q end × (from ≤ end) × (s.to ≤ relation_room) × (s.stop ≤ relation_room) × (size_of s ≤ kept_room) × Listed (table columns.now low.now high.now) s q level list.now count }
+    requires fit { Fit q × Room q end × (from ≤ end) × (s.to ≤ relation_room) × (s.stop ≤ relation_room) × (size_of s ≤ kept_room) × Listed (table_of pack.now) s q level list.now count }
     requires laid { Laid starts.now ends.now at.now j }
-    requires tabled { Tabled (below q (joined_in (table columns.now low.now high.now) s)) starts.now ends.now at.now j }
-    requires kept { Kept (table columns.now low.now high.now) s q level from says.old stop.old }
-    ensures opens { Opens (own q (joined_in (table columns.now low.now high.now) s) level) (below q (joined_in (table columns.now low.now high.now) s) j) from end result.at result.stop }
-    ensures kept_2 { Kept (table columns.now low.now high.now) s q level result.stop says.new stop.new }
+    requires tabled { Tabled (below q (joined_in (table_of pack.now) s)) starts.now ends.now at.now j }
+    requires kept { Kept (table_of pack.now) s q level from says.old stop.old }
+    ensures opens { Opens (own q (joined_in (table_of pack.now) s) level) (below q (joined_in (table_of pack.now) s) j) from end result.at result.stop }
+    ensures kept_2 { Kept (table_of pack.now) s q level result.stop says.new stop.new }
 {
     let mut p = from;
     while p < end {
         let f = look(
-            columns, low, high, s, q, list, count, level, starts, ends, at, j, p, end, says, stop,
+            pack, s, q, list, count, level, starts, ends, at, j, p, end, says, stop,
         );
         if f.at < f.stop {
             return f;

@@ -1,7 +1,7 @@
 // The levels of the table, built one above the other.
 ghost use Rattle.std.specs.Prelude.{◌≡◌, true, false, ℕ, ◌+◌, ◌^◌, ◌≤◌, ◌<◌, get_or};
 ghost use Rattle.pack_rules.specs.Room.{relation_room};
-ghost use Rattle.pack_rules.specs.Stretch.{table};
+ghost use Rattle.pack_rules.specs.Stretch.{table_of};
 ghost use Rattle.check_laws.specs.Levels.{own, below};
 ghost use Rattle.check_laws.specs.Read.{joined_in};
 ghost use Rattle.check_laws.specs.Ready.{Fit};
@@ -15,17 +15,15 @@ use check_next::{LevelPlaces, ROOM, Segments};
 use check_runs::KEPT;
 use check_runs::clause::size_of;
 use check_runs::marks::list_level;
-use pack_rules::{Columns, RangeEnds};
+use pack_rules::Pack;
 
 pub const LEVELS: usize = 7;
 
 // Stores the segments of level j behind those of the levels below it: what the relations of the level
 // allow, each from the first number on that passes the levels below. Returns the place behind the
 // last, or one past the room where it does not suffice.
-fn fill_level<'a>(
-    columns: &'a Columns,
-    low: &'a RangeEnds,
-    high: &'a RangeEnds,
+fn fill_level(
+    pack: &Pack,
     s: Span,
     q: Query,
     tiers: &[usize; KEPT],
@@ -35,12 +33,12 @@ fn fill_level<'a>(
     j: usize,
     m: u64,
 ) -> usize
-    requires fit { Fit q × (s.to ≤ relation_room) × (s.stop ≤ relation_room) × (size_of s ≤ kept_room) × (j < 7) × (m ≡ 10 ^ j) × Told (table columns.now low.now high.now) s q tiers.now }
+    requires fit { Fit q × (s.to ≤ relation_room) × (s.stop ≤ relation_room) × (size_of s ≤ kept_room) × (j < 7) × (m ≡ 10 ^ j) × Told (table_of pack.now) s q tiers.now }
     requires laid { Laid starts.old ends.old at.now j }
-    requires tabled { Tabled (below q (joined_in (table columns.now low.now high.now) s)) starts.old ends.old at.now j }
+    requires tabled { Tabled (below q (joined_in (table_of pack.now) s)) starts.old ends.old at.now j }
     ensures laid_2 { Laid starts.new ends.new at.now j }
-    ensures tabled_2 { Tabled (below q (joined_in (table columns.now low.now high.now) s)) starts.new ends.new at.now j }
-    ensures covers { result ≤ room → Covers (own q (joined_in (table columns.now low.now high.now) s) j) (below q (joined_in (table columns.now low.now high.now) s) j) (segments_in starts.new ends.new (get_or at.now j 0) result) (10 ^ j) }
+    ensures tabled_2 { Tabled (below q (joined_in (table_of pack.now) s)) starts.new ends.new at.now j }
+    ensures covers { result ≤ room → Covers (own q (joined_in (table_of pack.now) s) j) (below q (joined_in (table_of pack.now) s) j) (segments_in starts.new ends.new (get_or at.now j 0) result) (10 ^ j) }
 {
     let mut says = [false; KEPT];
     let mut stop: [u64; KEPT] = [0; KEPT];
@@ -50,7 +48,7 @@ fn fill_level<'a>(
     let mut p: u64 = 0;
     while p < m {
         let f = find::find(
-            columns, low, high, s, q, &list, count, j, starts, ends, at, j, p, m, &mut says,
+            pack, s, q, &list, count, j, starts, ends, at, j, p, m, &mut says,
             &mut stop,
         );
         if m <= f.at {
@@ -68,10 +66,8 @@ fn fill_level<'a>(
 }
 
 // Adds level j to the table, where its relations are asked; where they are not, it asks nothing.
-fn add_level<'a>(
-    columns: &'a Columns,
-    low: &'a RangeEnds,
-    high: &'a RangeEnds,
+fn add_level(
+    pack: &Pack,
     s: Span,
     q: Query,
     tiers: &[usize; KEPT],
@@ -82,18 +78,18 @@ fn add_level<'a>(
     j: usize,
     m: u64,
 ) -> Built
-    requires fit { Fit q × (s.to ≤ relation_room) × (s.stop ≤ relation_room) × (size_of s ≤ kept_room) × (j < 7) × (m ≡ 10 ^ j) × Told (table columns.now low.now high.now) s q tiers.now }
-    requires x_value { on ≡ false → (x : ℕ) → own q (joined_in (table columns.now low.now high.now) s) j x ≡ true }
+    requires fit { Fit q × (s.to ≤ relation_room) × (s.stop ≤ relation_room) × (size_of s ≤ kept_room) × (j < 7) × (m ≡ 10 ^ j) × Told (table_of pack.now) s q tiers.now }
+    requires x_value { on ≡ false → (x : ℕ) → own q (joined_in (table_of pack.now) s) j x ≡ true }
     requires laid { Laid starts.old ends.old at.old j }
-    requires tabled { Tabled (below q (joined_in (table columns.now low.now high.now) s)) starts.old ends.old at.old j }
-    ensures { BuiltAs (below q (joined_in (table columns.now low.now high.now) s)) starts.new ends.new at.new (j + 1) result }
+    requires tabled { Tabled (below q (joined_in (table_of pack.now) s)) starts.old ends.old at.old j }
+    ensures { BuiltAs (below q (joined_in (table_of pack.now) s)) starts.new ends.new at.new (j + 1) result }
 {
     let from = at[j];
     if !on {
         at[j + 1] = from;
         return Built::Stands;
     }
-    let end = fill_level(columns, low, high, s, q, tiers, starts, ends, at, j, m);
+    let end = fill_level(pack, s, q, tiers, starts, ends, at, j, m);
     if ROOM < end {
         return Built::Full;
     }
@@ -105,10 +101,8 @@ fn add_level<'a>(
 }
 
 // Builds the levels of the table in turn.
-pub fn build<'a>(
-    columns: &'a Columns,
-    low: &'a RangeEnds,
-    high: &'a RangeEnds,
+pub fn build(
+    pack: &Pack,
     s: Span,
     q: Query,
     tiers: &[usize; KEPT],
@@ -117,16 +111,16 @@ pub fn build<'a>(
     ends: &mut Segments,
     at: &mut LevelPlaces,
 ) -> Built
-    requires fit { Fit q × (s.to ≤ relation_room) × (s.stop ≤ relation_room) × (size_of s ≤ kept_room) × Told (table columns.now low.now high.now) s q tiers.now }
-    requires by_index { (j : ℕ) → j < 9 → get_or asked.now j false ≡ false → (x : ℕ) → own q (joined_in (table columns.now low.now high.now) s) j x ≡ true }
+    requires fit { Fit q × (s.to ≤ relation_room) × (s.stop ≤ relation_room) × (size_of s ≤ kept_room) × Told (table_of pack.now) s q tiers.now }
+    requires by_index { (j : ℕ) → j < 9 → get_or asked.now j false ≡ false → (x : ℕ) → own q (joined_in (table_of pack.now) s) j x ≡ true }
     requires laid { Laid starts.old ends.old at.old 0 }
-    ensures { BuiltAs (below q (joined_in (table columns.now low.now high.now) s)) starts.new ends.new at.new 7 result }
+    ensures { BuiltAs (below q (joined_in (table_of pack.now) s)) starts.new ends.new at.new 7 result }
 {
     let mut m: u64 = 1;
     let mut j: usize = 0;
     while j < LEVELS {
         let b = add_level(
-            columns, low, high, s, q, tiers, asked[j], starts, ends, at, j, m,
+            pack, s, q, tiers, asked[j], starts, ends, at, j, m,
         );
         match b {
             Built::Stands => {}

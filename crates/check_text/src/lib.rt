@@ -7,7 +7,7 @@ ghost use Rattle.check_text.specs.Check.{checked_by, check_pack};
 
 use answer::{Refusal, RulesRow};
 use check_laws::Checked;
-use pack_rules::{ClauseEnds, Columns, Keywords, RangeEnds, RuleEnds};
+use pack_rules::Pack;
 use pack_verdict::Read;
 
 
@@ -26,24 +26,14 @@ fn checked_by(c: Checked) -> Result<(), Refusal>
 fn check_read(pack: &[u8]) -> Result<(), Refusal>
     ensures { result ≡ check_pack pack.now }
 {
-    let mut low: RangeEnds = [0; 2048];
-    let mut high: RangeEnds = [0; 2048];
-    let mut columns: Columns = [0; 1280];
-    let mut relations: ClauseEnds = [0; 40];
-    let mut keyword: Keywords = [0; 6];
-    let mut clauses: RuleEnds = [0; 6];
+    let mut pack = pack_rules::empty();
     let read = pack_reader::read_pack(
         pack,
-        &mut low,
-        &mut high,
-        &mut columns,
-        &mut relations,
-        &mut keyword,
-        &mut clauses,
+        &mut pack,
     );
     match read {
         Ok(count) => checked_by(check_pairs::check(
-            &columns, &low, &high, &relations, &keyword, &clauses, count,
+            &pack,
         )),
         Err(refusal) => Err(refusal),
     }

@@ -14,7 +14,8 @@ use Rattle.answer.specs.declared.Refusal.TheVariants.{Rules as OfRules}
 use Rattle.answer.specs.declared.RulesRow.TheVariants.{TwoRulesMet}
 use Rattle.number.specs.declared.Number.{Number}
 use Rattle.pack_rules.specs.Syntax.{Rule}
-use Rattle.pack_rules.specs.Held.{Pack, keyword_of, held_rules}
+use Rattle.pack_rules.specs.declared.Pack.{Pack}
+use Rattle.pack_rules.specs.Held.{keyword_of, held_rules}
 use Rattle.pack_rules.specs.Stretch.{stretch, table_of, rule_at}
 use Rattle.pack_rules.proofs.Stretches.{Sized, length_stretch, held_rules_law}
 use Rattle.meaning.specs.Meaning.{meets}

@@ -17,7 +17,7 @@ pub returns : goal.returns
 returns c =
     let a = c.args in
     let n = c.rule_count-n in
-    held_by clauses-clash (lent a.low.now a.high.now a.columns.now a.relations.now a.keyword.now a.clauses.now a.count) n.result c.first_pair.result
+    held_by clauses-clash (a.pack.now) n.result c.first_pair.result
     (record {
       low = (search rules);
       high = (search rules);

@@ -6,4 +6,4 @@ use Rattle.engines_table.proofs.ask_both.Goals as goal
 pub returns : goal.returns
 returns c =
     let a = c.args in
-    (engines_agree (lent a.low.now a.high.now a.columns.now a.relations.now a.keyword.now a.clauses.now a.count) c.check-fast.result c.check-plain.result c.check-fast.ensures c.check-plain.ensures, c.check-plain.ensures)
+    (engines_agree (a.pack.now) c.check-fast.result c.check-plain.result c.check-fast.ensures c.check-plain.ensures, c.check-plain.ensures)

@@ -1,5 +1,5 @@
 -- `check_runs::marks::mark_levels` marks the level of each relation. Invariant: those of the relations so far are marked.
-use Rattle.pack_rules.specs.Stretch.{single_at, relation_by, table}
+use Rattle.pack_rules.specs.Stretch.{single_at, relation_by, table, table_of}
 use Rattle.pack_rules.specs.declared.Single.{Single}
 use native.Mathlib.Omega.{arith}
 use Prim.Native.Nat.{◌≤◌}
@@ -12,7 +12,7 @@ use Rattle.check_runs.proofs.marks.mark_levels.Goals as goal
 pub loop-k-init : goal.loop-k-init
 loop-k-init c =
     let a = c.args in
-    let T = table a.columns.now a.low.now a.high.now in
+    let T = table_of a.pack.now in
     (marks_start T a.s a.q c.mark_digit.new.asked c.mark_digit.ensures, c.size_of-size.ensures, telling_start T a.s a.q a.tiers.now c.requires.to_le_relation_room.3)
 
 pub place_of-j-requires : goal.place_of-j-requires
@@ -24,16 +24,16 @@ single_at-requires c = c.place_of-j.ensures.upper_bound
 pub loop-k-preserved : goal.loop-k-preserved
 loop-k-preserved c =
     let a = c.args in
-    let T = table a.columns.now a.low.now a.high.now in
+    let T = table_of a.pack.now in
     let l = c.loop-k in
     let m = c.mark_of in
-    let e = c.single_at.ensures.value ∙ ap (single_at a.columns.now) c.place_of-j.ensures.value in
-    (marks_more T a.s a.q l.k l.asked m.new.asked (omega (arith, l.invariant.1, c.loop-k-test.true)) l.invariant.0 (subst (λ (s : Single). Noted a.q (relation_by a.low.now a.high.now s) m.new.asked) e (m.ensures.by_index_2 a.low.now a.high.now)) m.ensures.grown, l.invariant.1, telling_more T a.s a.q l.k m.result l.tiers (omega (arith, l.invariant.1, c.loop-k-test.true, c.requires.to_le_relation_room.2)) l.invariant.2 (m.ensures.by_index a.low.now a.high.now ∙ ap (λ (s : Single). tier a.q (relation_by a.low.now a.high.now s)) e))
+    let e = c.single_at.ensures.value ∙ ap (single_at a.pack.now.columns) c.place_of-j.ensures.value in
+    (marks_more T a.s a.q l.k l.asked m.new.asked (omega (arith, l.invariant.1, c.loop-k-test.true)) l.invariant.0 (subst (λ (s : Single). Noted a.q (relation_by a.pack.now.low a.pack.now.high s) m.new.asked) e (m.ensures.by_index_2 a.pack.now.low a.pack.now.high)) m.ensures.grown, l.invariant.1, telling_more T a.s a.q l.k m.result l.tiers (omega (arith, l.invariant.1, c.loop-k-test.true, c.requires.to_le_relation_room.2)) l.invariant.2 (m.ensures.by_index a.pack.now.low a.pack.now.high ∙ ap (λ (s : Single). tier a.q (relation_by a.pack.now.low a.pack.now.high s)) e))
 
 pub returns : goal.returns
 returns c =
     let a = c.args in
-    let T = table a.columns.now a.low.now a.high.now in
+    let T = table_of a.pack.now in
     let l = c.loop-k in
     let h : size_of a.s ≤ l.k = omega (arith, l.invariant.1, c.loop-k-test.false) in
     record {

@@ -1,5 +1,5 @@
 -- `check_runs::marks::mark_levels` marks the level of each relation. Invariant: those of the relations so far are marked.
-use Rattle.pack_rules.specs.Stretch.{table}
+use Rattle.pack_rules.specs.Stretch.{table, table_of}
 use Prim.Native.Nat.{◌-◌}
 use mathlib.Core.Path.{◌≡◌}
 use Rattle.check_runs.specs.Kept.{size_of}
@@ -8,7 +8,7 @@ use Rattle.check_runs.proofs.marks.mark_levels.Given as goal
 
 abbrev pub invariant-loop-k : goal.invariant-loop-k
 invariant-loop-k l =
-    let T = table l.columns l.low l.high in
+    let T = table_of l.pack in
     Marks T l.s l.q l.k l.asked × (l.size ≡ size_of l.s) × Telling T l.s l.q l.k l.tiers
 
 abbrev pub decreases-loop-k : goal.decreases-loop-k
