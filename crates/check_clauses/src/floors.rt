@@ -4,7 +4,7 @@ ghost use Rattle.check_laws.specs.Floors.{Floored, Under, long_in};
 ghost use Rattle.pack_rules.specs.Room.{clause_room, relation_room};
 ghost use Rattle.pack_rules.specs.Stretch.{table_of, clause_at};
 
-use crate::{PerClause, ends};
+use crate::{ClauseFloors, PerClause};
 use check_laws::{Floors, Span};
 use decimal::num::greater;
 use pack_rules::{Pack, RELATION_ROOM, from_at, start_at, stop_at};
@@ -29,10 +29,7 @@ fn is_long(pack: &Pack, from: usize, to: usize) -> bool
 }
 
 // The floors of the clause j: zeros where it is not long.
-fn clause_floors(
-    pack: &Pack,
-    j: usize,
-) -> Floors
+fn clause_floors(pack: &Pack, j: usize) -> Floors
     requires { j < clause_room }
     ensures { Under (clause_at (table_of pack.now) pack.now.relations j) result }
 {
@@ -54,48 +51,29 @@ fn clause_floors(
     check_search::floors_of(pack, s)
 }
 
-fn higher(floors: &PerClause, k: usize, l: usize) -> u64
-    requires { (k < clause_room) × (l < clause_room) }
-    ensures { result ≡ max (get_or floors.now k 0) (get_or floors.now l 0) }
-{
-    greater(floors[k], floors[l])
-}
-
 // The floors of the clauses k and l joined: what one of them does not allow, both do not.
-pub fn pair_floors(
-    whole: &PerClause,
-    part: &PerClause,
-    tail: &PerClause,
-    k: usize,
-    l: usize,
-) -> Floors
+pub fn pair_floors(floors: &ClauseFloors, k: usize, l: usize) -> Floors
     requires { (k < clause_room) × (l < clause_room) }
-    ensures { (result.whole ≡ max (get_or whole.now k 0) (get_or whole.now l 0)) × (result.part ≡ max (get_or part.now k 0) (get_or part.now l 0)) × (result.tail ≡ max (get_or tail.now k 0) (get_or tail.now l 0)) }
+    ensures { (result.whole ≡ max (get_or floors.now.whole k 0) (get_or floors.now.whole l 0)) × (result.part ≡ max (get_or floors.now.part k 0) (get_or floors.now.part l 0)) × (result.tail ≡ max (get_or floors.now.tail k 0) (get_or floors.now.tail l 0)) }
 {
     Floors {
-        whole: higher(whole, k, l),
-        part: higher(part, k, l),
-        tail: higher(tail, k, l),
+        whole: floors.whole[k].max(floors.whole[l]),
+        part: floors.part[k].max(floors.part[l]),
+        tail: floors.tail[k].max(floors.tail[l]),
     }
 }
 
 // Fills in the floors of the first `to` clauses.
-pub fn fill(
-    pack: &Pack,
-    whole: &mut PerClause,
-    part: &mut PerClause,
-    tail: &mut PerClause,
-    to: usize,
-)
-    requires { (to ≤ clause_room) × Floored (table_of pack.now) pack.now.relations whole.old part.old tail.old }
-    ensures { Floored (table_of pack.now) pack.now.relations whole.new part.new tail.new }
+pub fn fill(pack: &Pack, floors: &mut ClauseFloors, to: usize)
+    requires { (to ≤ clause_room) × Floored (table_of pack.now) pack.now.relations floors.old.whole floors.old.part floors.old.tail }
+    ensures { Floored (table_of pack.now) pack.now.relations floors.new.whole floors.new.part floors.new.tail }
 {
     let mut j: usize = 0;
     while j < to {
         let l = clause_floors(pack, j);
-        whole[j] = l.whole;
-        part[j] = l.part;
-        tail[j] = l.tail;
+        floors.whole[j] = l.whole;
+        floors.part[j] = l.part;
+        floors.tail[j] = l.tail;
         j += 1;
     }
 }

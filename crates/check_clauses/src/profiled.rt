@@ -4,14 +4,11 @@ ghost use Rattle.check_laws.specs.Profile.{profile_of, Profiled};
 ghost use Rattle.pack_rules.specs.Room.{clause_room};
 ghost use Rattle.pack_rules.specs.Stretch.{table_of, clause_at};
 
-use crate::{PerClause, ends};
+use crate::PerClause;
 use pack_rules::{Pack, RELATION_ROOM, start_at, stop_at};
 
 // The profile of the clause j.
-fn profile_of(
-    pack: &Pack,
-    j: usize,
-) -> u64
+fn profile_of(pack: &Pack, j: usize) -> u64
     requires { j < clause_room }
     ensures { result ≡ profile_of (clause_at (table_of pack.now) pack.now.relations j) }
 {
@@ -33,11 +30,7 @@ fn put(profiles: &mut PerClause, j: usize, p: u64)
 }
 
 // Fills in the profiles of the first `to` clauses.
-pub fn fill(
-    pack: &Pack,
-    profiles: &mut PerClause,
-    to: usize,
-)
+pub fn fill(pack: &Pack, profiles: &mut PerClause, to: usize)
     requires { to ≤ clause_room }
     ensures { Profiled (table_of pack.now) pack.now.relations profiles.new to }
 {

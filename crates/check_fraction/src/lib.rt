@@ -22,12 +22,7 @@ use decimal::num::{lesser, power};
 use pack_rules::Pack;
 
 // The least t before k zeros, by a search; there is none below the least by what is asked of t alone.
-fn tail_of(
-    pack: &Pack,
-    s: Span,
-    k: u64,
-    least: u64,
-) -> u64
+fn tail_of(pack: &Pack, s: Span, k: u64, least: u64) -> u64
     requires { (k < max_places) × (s.to ≤ relation_room) × (s.stop ≤ relation_room) × (least ≡ alone_of (joined_in (table_of pack.now) s)) }
     ensures { result ≡ tail_of k (joined_in (table_of pack.now) s) }
 {
@@ -44,11 +39,7 @@ fn tail_of(
 }
 
 // The least t by what is asked of t alone; there is none below the floor.
-pub fn alone_of(
-    pack: &Pack,
-    s: Span,
-    floor: u64,
-) -> u64
+pub fn alone_of(pack: &Pack, s: Span, floor: u64) -> u64
     requires { (s.to ≤ relation_room) × (s.stop ≤ relation_room) × NoneBelow alone (joined_in (table_of pack.now) s) floor }
     ensures { result ≡ alone_of (joined_in (table_of pack.now) s) }
 {
@@ -64,13 +55,7 @@ pub fn alone_of(
 
 // The least t before k zeros, where t is the least by what is asked of t alone: where no relation asks f,
 // there is no more to ask.
-fn tail_at(
-    pack: &Pack,
-    s: Span,
-    k: u64,
-    t: u64,
-    spared: bool,
-) -> u64
+fn tail_at(pack: &Pack, s: Span, k: u64, t: u64, spared: bool) -> u64
     requires { (k < max_places) × (s.to ≤ relation_room) × (s.stop ≤ relation_room) × (t ≡ alone_of (joined_in (table_of pack.now) s)) × (spared ≡ not (asks_of 102 (joined_in (table_of pack.now) s))) }
     ensures { result ≡ tail_of k (joined_in (table_of pack.now) s) }
 {
@@ -81,16 +66,7 @@ fn tail_at(
 }
 
 // The least v and f, where f ends in k zeros and is not 0. There is no search where no v is settled.
-fn tail_code(
-    pack: &Pack,
-    s: Span,
-    b: Bounds,
-    vs: u64,
-    ws: u64,
-    k: u64,
-    t: u64,
-    spared: bool,
-) -> u64
+fn tail_code(pack: &Pack, s: Span, b: Bounds, vs: u64, ws: u64, k: u64, t: u64, spared: bool) -> u64
     requires k_lt_max_places { (k < max_places) × (s.to ≤ relation_room) × (s.stop ≤ relation_room) × (t ≡ alone_of (joined_in (table_of pack.now) s)) × (spared ≡ not (asks_of 102 (joined_in (table_of pack.now) s))) }
     requires settled { Settled (bounded b (joined_in (table_of pack.now) s)) vs ws }
     ensures { result ≡ tail_code k (bounded b (joined_in (table_of pack.now) s)) }
@@ -107,15 +83,7 @@ fn tail_code(
 }
 
 // The least over the zeros at the end of f. More zeros need more places than one that is found may have.
-fn least_code(
-    pack: &Pack,
-    s: Span,
-    b: Bounds,
-    vs: u64,
-    ws: u64,
-    t: u64,
-    spared: bool,
-) -> u64
+fn least_code(pack: &Pack, s: Span, b: Bounds, vs: u64, ws: u64, t: u64, spared: bool) -> u64
     requires to_le_relation_room { (s.to ≤ relation_room) × (s.stop ≤ relation_room) × (t ≡ alone_of (joined_in (table_of pack.now) s)) × (spared ≡ not (asks_of 102 (joined_in (table_of pack.now) s))) }
     requires settled { Settled (bounded b (joined_in (table_of pack.now) s)) vs ws }
     ensures { result ≡ part_code max_places (bounded b (joined_in (table_of pack.now) s)) }
@@ -126,10 +94,7 @@ fn least_code(
         if best <= (k + 1) * limits::FRACTION_LIMIT {
             return best;
         }
-        best = lesser(
-            best,
-            tail_code(pack, s, b, vs, ws, k, t, spared),
-        );
+        best = lesser(best, tail_code(pack, s, b, vs, ws, k, t, spared));
         k += 1;
     }
     best
@@ -175,14 +140,7 @@ fn code_of(v: u64, f: u64) -> u64
 // The least over the zeros at the end, where f is asked. No f comes before the least by what is asked of
 // f alone, nor its v before the least with room for that. So they are a bound, and often reached: then
 // one search for t is enough.
-fn asked_code(
-    pack: &Pack,
-    s: Span,
-    b: Bounds,
-    vs: u64,
-    ws: u64,
-    t: u64,
-) -> u64
+fn asked_code(pack: &Pack, s: Span, b: Bounds, vs: u64, ws: u64, t: u64) -> u64
     requires to_le_relation_room { (s.to ≤ relation_room) × (s.stop ≤ relation_room) × (t ≡ alone_of (joined_in (table_of pack.now) s)) × (false ≡ not (asks_of 102 (joined_in (table_of pack.now) s))) }
     requires settled { Settled (bounded b (joined_in (table_of pack.now) s)) vs ws }
     ensures { result ≡ part_code max_places (bounded b (joined_in (table_of pack.now) s)) }
@@ -201,13 +159,7 @@ fn asked_code(
 }
 
 // The least v and f, where f is not 0: none where no t meets what is asked of t alone.
-pub fn part_code(
-    pack: &Pack,
-    s: Span,
-    b: Bounds,
-    p: u64,
-    floor: u64,
-) -> u64
+pub fn part_code(pack: &Pack, s: Span, b: Bounds, p: u64, floor: u64) -> u64
     requires to_le_relation_room { (s.to ≤ relation_room) × (s.stop ≤ relation_room) × NoneBelow alone (joined_in (table_of pack.now) s) floor }
     requires p_value { p ≡ profile_of (bounded b (joined_in (table_of pack.now) s)) }
     ensures { result ≡ part_code max_places (bounded b (joined_in (table_of pack.now) s)) }

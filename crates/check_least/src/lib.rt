@@ -54,13 +54,7 @@ fn is_ready(s: Span, q: Query, lo: u64, hi: u64) -> bool
 
 // The least number from lo on and below hi that passes what the clause asks, or hi; hi too where the
 // search has no room.
-pub fn least_number(
-    pack: &Pack,
-    s: Span,
-    q: Query,
-    lo: u64,
-    hi: u64,
-) -> u64
+pub fn least_number(pack: &Pack, s: Span, q: Query, lo: u64, hi: u64) -> u64
     ensures { result ≡ least_in (table_of pack.now) s q lo hi }
 {
     if is_ready(s, q, lo, hi) {
@@ -71,14 +65,7 @@ pub fn least_number(
 
 // The least number from lo on and below hi that passes, or hi. Where the floor is not below hi there is
 // no search.
-pub fn least_from(
-    pack: &Pack,
-    s: Span,
-    q: Query,
-    lo: u64,
-    floor: u64,
-    hi: u64,
-) -> u64
+pub fn least_from(pack: &Pack, s: Span, q: Query, lo: u64, floor: u64, hi: u64) -> u64
     requires { NoneBelow q (joined_in (table_of pack.now) s) floor }
     ensures { result ≡ least_in (table_of pack.now) s q lo hi }
 {

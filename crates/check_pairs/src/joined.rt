@@ -9,7 +9,7 @@ ghost use Rattle.check_laws.specs.Read.{rule_clauses};
 ghost use Rattle.check_laws.specs.Spots.{spot_rank, Proper};
 
 use answer::Witness;
-use check_clauses::{PerClause, floors};
+use check_clauses::{ClauseFloors, PerClause, floors as clause_floors};
 use check_laws::{Bounds, Span, limits};
 use check_places::order;
 use decimal::Places;
@@ -18,14 +18,12 @@ use pack_rules::{CLAUSE_ROOM, Pack, RELATION_ROOM, start_at, stop_at};
 // The least number of the clauses k and l joined, with any v.
 fn joined_spot(
     pack: &Pack,
-    whole: &PerClause,
-    part: &PerClause,
-    tail: &PerClause,
+    floors: &ClauseFloors,
     profiles: &PerClause,
     k: usize,
     l: usize,
 ) -> Witness
-    requires k_lt_clause_room { (k < clause_room) × (l < clause_room) × Floored (table_of pack.now) pack.now.relations whole.now part.now tail.now }
+    requires k_lt_clause_room { (k < clause_room) × (l < clause_room) × Floored (table_of pack.now) pack.now.relations floors.now.whole floors.now.part floors.now.tail }
     requires k_value { (get_or profiles.now k 0 ≡ profile_of (clause_at (table_of pack.now) pack.now.relations k)) × (get_or profiles.now l 0 ≡ profile_of (clause_at (table_of pack.now) pack.now.relations l)) }
     ensures { (spot_rank result ≡ clause_rank (clause_at (table_of pack.now) pack.now.relations k ++ clause_at (table_of pack.now) pack.now.relations l)) × Proper result }
 {
@@ -44,32 +42,28 @@ fn joined_spot(
         most: Places(limits::MAX_PLACES as u8),
     };
     let p = profiles[k] & profiles[l];
-    let floors = floors::pair_floors(whole, part, tail, k, l);
-    check_search::least_admitted(pack, s, b, p, floors)
+    let pair = clause_floors::pair_floors(floors, k, l);
+    check_search::least_admitted(pack, s, b, p, pair)
 }
 
 // The earliest of `best` and the least numbers of the clause k with each of those from place `from` to before `to`.
 fn with_each(
     pack: &Pack,
-    whole: &PerClause,
-    part: &PerClause,
-    tail: &PerClause,
+    floors: &ClauseFloors,
     profiles: &PerClause,
     k: usize,
     from: usize,
     to: usize,
     first: Witness,
 ) -> Witness
-    requires k_lt_clause_room { (k < clause_room) × (to ≤ clause_room) × Proper first × Floored (table_of pack.now) pack.now.relations whole.now part.now tail.now }
+    requires k_lt_clause_room { (k < clause_room) × (to ≤ clause_room) × Proper first × Floored (table_of pack.now) pack.now.relations floors.now.whole floors.now.part floors.now.tail }
     requires k_value { (get_or profiles.now k 0 ≡ profile_of (clause_at (table_of pack.now) pack.now.relations k)) × Profiled (table_of pack.now) pack.now.relations profiles.now to }
     ensures { (spot_rank result ≡ min (spot_rank first) (fast_rank (with_each (clause_at (table_of pack.now) pack.now.relations k) (clauses_in (table_of pack.now) pack.now.relations from to)))) × Proper result }
 {
     let mut best = first;
     let mut l = from;
     while l < to {
-        let one = joined_spot(
-            pack, whole, part, tail, profiles, k, l,
-        );
+        let one = joined_spot(pack, floors, profiles, k, l);
         best = order::earlier(best, one);
         l += 1;
     }
@@ -79,25 +73,21 @@ fn with_each(
 // The least number of the clauses from place `from` to before `to` with those from `start` to before `stop`.
 fn both_spot(
     pack: &Pack,
-    whole: &PerClause,
-    part: &PerClause,
-    tail: &PerClause,
+    floors: &ClauseFloors,
     profiles: &PerClause,
     from: usize,
     to: usize,
     start: usize,
     stop: usize,
 ) -> Witness
-    requires to_le_clause_room { (to ≤ clause_room) × (stop ≤ clause_room) × Floored (table_of pack.now) pack.now.relations whole.now part.now tail.now }
+    requires to_le_clause_room { (to ≤ clause_room) × (stop ≤ clause_room) × Floored (table_of pack.now) pack.now.relations floors.now.whole floors.now.part floors.now.tail }
     requires profiled { Profiled (table_of pack.now) pack.now.relations profiles.now to × Profiled (table_of pack.now) pack.now.relations profiles.now stop }
     ensures { (spot_rank result ≡ fast_rank (both_of (clauses_in (table_of pack.now) pack.now.relations from to) (clauses_in (table_of pack.now) pack.now.relations start stop))) × Proper result }
 {
     let mut best = order::nowhere();
     let mut k = from;
     while k < to {
-        best = with_each(
-            pack, whole, part, tail, profiles, k, start, stop, best,
-        );
+        best = with_each(pack, floors, profiles, k, start, stop, best);
         k += 1;
     }
     best
@@ -106,14 +96,12 @@ fn both_spot(
 // The least number that meets the rules p and q.
 pub fn pair_spot(
     pack: &Pack,
-    whole: &PerClause,
-    part: &PerClause,
-    tail: &PerClause,
+    floors: &ClauseFloors,
     profiles: &PerClause,
     p: usize,
     q: usize,
 ) -> Witness
-    requires p_lt_rule_room { (p < rule_room) × (q < rule_room) × Floored (table_of pack.now) pack.now.relations whole.now part.now tail.now }
+    requires p_lt_rule_room { (p < rule_room) × (q < rule_room) × Floored (table_of pack.now) pack.now.relations floors.now.whole floors.now.part floors.now.tail }
     requires profiled { Profiled (table_of pack.now) pack.now.relations profiles.now (min (get_or pack.now.clauses p 0) clause_room) × Profiled (table_of pack.now) pack.now.relations profiles.now (min (get_or pack.now.clauses q 0) clause_room) }
     ensures { (spot_rank result ≡ fast_rank (both_of (rule_clauses (table_of pack.now) pack.now.relations pack.now.clauses p) (rule_clauses (table_of pack.now) pack.now.relations pack.now.clauses q))) × Proper result }
 {
@@ -121,7 +109,5 @@ pub fn pair_spot(
     let to = stop_at(&pack.clauses, p, CLAUSE_ROOM);
     let start = start_at(&pack.clauses, q);
     let stop = stop_at(&pack.clauses, q, CLAUSE_ROOM);
-    both_spot(
-        pack, whole, part, tail, profiles, from, to, start, stop,
-    )
+    both_spot(pack, floors, profiles, from, to, start, stop)
 }

@@ -27,22 +27,18 @@ pub struct Clash {
 }
 
 // The check of the first `count` rules in a parsed pack's arrays.
-pub fn check(
-    pack: &Pack,
-) -> Checked
+pub fn check(pack: &Pack) -> Checked
     ensures { result ≡ check_of (held_rules pack.now) }
 {
     let n = pack.count.min(RULE_ROOM);
     let end = clauses_end(pack, n);
-    let mut whole: [u64; 40] = [0; 40];
-    let mut part: [u64; 40] = [0; 40];
-    let mut tail: [u64; 40] = [0; 40];
+    let mut floors = ClauseFloors {
+        whole: [0; CLAUSE_ROOM],
+        part: [0; CLAUSE_ROOM],
+        tail: [0; CLAUSE_ROOM],
+    };
     let mut profiles: [u64; 40] = [0; 40];
     profiled::fill(pack, &mut profiles, end);
-    floors::fill(
-        pack, &mut whole, &mut part, &mut tail, end,
-    );
-    first::first_pair(
-        pack, &whole, &part, &tail, &profiles, n,
-    )
+    floors::fill(pack, &mut floors, end);
+    first::first_pair(pack, &floors, &profiles, n)
 }

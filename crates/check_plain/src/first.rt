@@ -22,11 +22,7 @@ pub struct Clash {
 }
 
 // The first of the rules behind the rule p, below n, that clashes with it; n where none does.
-fn later_clash(
-    pack: &Pack,
-    p: usize,
-    n: usize,
-) -> Clash
+fn later_clash(pack: &Pack, p: usize, n: usize) -> Clash
     requires { (p < n) × (n ≤ rule_room) }
     ensures { ((rest : Checked) → against clash_of (p + 1) (p + 1 + 1) (bare_rule (table_of pack.now) pack.now.relations pack.now.clauses p) (stretch (bare_rule (table_of pack.now) pack.now.relations pack.now.clauses) (p + 1) (n - (p + 1))) rest ≡ answered p n result.at result.spot rest) × (result.at < n → result.spot.e ≤ max_exponent) × Proper result.spot }
 {
@@ -55,10 +51,7 @@ fn clashes(p: usize, q: usize, s: Witness) -> Checked
 }
 
 // The first pair among the first n rules, with its least number.
-pub fn first_pair(
-    pack: &Pack,
-    n: usize,
-) -> Checked
+pub fn first_pair(pack: &Pack, n: usize) -> Checked
     requires { n ≤ rule_room }
     ensures { result ≡ first_pair clash_of (0 + 1) (stretch (bare_rule (table_of pack.now) pack.now.relations pack.now.clauses) 0 (n - 0)) }
 {

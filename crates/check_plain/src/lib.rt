@@ -17,9 +17,7 @@ use check_laws::Checked;
 use pack_rules::{Pack, RULE_ROOM};
 
 // The check of the first `count` rules in a parsed pack's arrays.
-pub fn check(
-    pack: &Pack,
-) -> Checked
+pub fn check(pack: &Pack) -> Checked
     ensures { result ≡ check_of (held_rules pack.now) }
 {
     let n = pack.count.min(RULE_ROOM);

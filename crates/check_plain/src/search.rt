@@ -27,12 +27,7 @@ pub fn nowhere() -> Witness
 }
 
 // Whether the number meets both rules.
-fn meets_both(
-    pack: &Pack,
-    first: usize,
-    second: usize,
-    x: Number,
-) -> bool
+fn meets_both(pack: &Pack, first: usize, second: usize, x: Number) -> bool
     ensures { result ≡ meets_both (table_of pack.now) pack.now.relations pack.now.clauses first second x }
 {
     if !select::meets_held(pack, first, x) {
@@ -42,14 +37,7 @@ fn meets_both(
 }
 
 // Every f below 10^v.
-fn try_fractions(
-    pack: &Pack,
-    p: usize,
-    q: usize,
-    e: u8,
-    v: u8,
-    i: u64,
-) -> Witness
+fn try_fractions(pack: &Pack, p: usize, q: usize, e: u8, v: u8, i: u64) -> Witness
     requires { (e ≤ max_exponent) × (v ≤ max_places) × (lowest e ≤ i) × (i < 10 ^ max_digits) }
     ensures { Tried (meets_both (table_of pack.now) pack.now.relations pack.now.clauses p q) (rank_at e v i 0) (rank_at e v (i + 1) 0) result }
 {
@@ -71,13 +59,7 @@ fn try_fractions(
 }
 
 // Every i from the least that e allows to below 10^15.
-fn try_integers(
-    pack: &Pack,
-    p: usize,
-    q: usize,
-    e: u8,
-    v: u8,
-) -> Witness
+fn try_integers(pack: &Pack, p: usize, q: usize, e: u8, v: u8) -> Witness
     requires { (e ≤ max_exponent) × (v ≤ max_places) }
     ensures { Tried (meets_both (table_of pack.now) pack.now.relations pack.now.clauses p q) (rank_at e v 0 0) (rank_at e (v + 1) 0 0) result }
 {
@@ -93,12 +75,7 @@ fn try_integers(
 }
 
 // Every v.
-fn try_places(
-    pack: &Pack,
-    p: usize,
-    q: usize,
-    e: u8,
-) -> Witness
+fn try_places(pack: &Pack, p: usize, q: usize, e: u8) -> Witness
     requires { e ≤ max_exponent }
     ensures { Tried (meets_both (table_of pack.now) pack.now.relations pack.now.clauses p q) (rank_at e 0 0 0) (rank_at (e + 1) 0 0 0) result }
 {
@@ -114,11 +91,7 @@ fn try_places(
 }
 
 // Every e: the least number that meets the rules p and q.
-pub fn try_all(
-    pack: &Pack,
-    p: usize,
-    q: usize,
-) -> Witness
+pub fn try_all(pack: &Pack, p: usize, q: usize) -> Witness
     ensures { (spot_rank result ≡ clash_of (bare_rule (table_of pack.now) pack.now.relations pack.now.clauses p) (bare_rule (table_of pack.now) pack.now.relations pack.now.clauses q)) × Proper result }
 {
     let mut e: u8 = 0;

@@ -114,11 +114,7 @@ fn relation_profile(pack: &Pack, s: Single) -> u64
 }
 
 // The profile of the relations from place `from` to before `to`.
-pub fn clause_profile(
-    pack: &Pack,
-    from: usize,
-    to: usize,
-) -> u64
+pub fn clause_profile(pack: &Pack, from: usize, to: usize) -> u64
     requires { to ≤ relation_room }
     ensures { result ≡ profile_of (relations_in (table_of pack.now) from to) }
 {

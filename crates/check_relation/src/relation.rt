@@ -133,13 +133,7 @@ fn upwards_by(y: u64, s: u64) -> u64
 }
 
 // What the relation, which is asked, asks of p at its level.
-pub fn own_run(
-    pack: &Pack,
-    q: Query,
-    level: usize,
-    s: Single,
-    p: u64,
-) -> Run
+pub fn own_run(pack: &Pack, q: Query, level: usize, s: Single, p: u64) -> Run
     requires fit { Fit q }
     requires room { Room q p }
     requires to_le_range_room { (s.to ≤ range_room) × (level < 9) × (level ≡ tier q (relation_by pack.now.low pack.now.high s)) }

@@ -39,13 +39,7 @@ fn one_if(b: bool) -> u64
 }
 
 // The least i at e; there is none below the floor.
-pub fn integer_of(
-    pack: &Pack,
-    s: Span,
-    whole: bool,
-    e: u64,
-    floor: u64,
-) -> u64
+pub fn integer_of(pack: &Pack, s: Span, whole: bool, e: u64, floor: u64) -> u64
     requires { (e ≤ max_exponent) × (s.to ≤ relation_room) × (s.stop ≤ relation_room) × NoneBelow (query_i whole) (joined_in (table_of pack.now) s) floor }
     ensures { result ≡ integer_of whole e (joined_in (table_of pack.now) s) }
 {
@@ -79,14 +73,7 @@ fn spot_of(e: u64, q: u64, i: u64) -> Witness
 
 // The least number at e whose f is not 0. There is no search where the floor leaves no t, and none for f
 // where there is no i.
-fn part_spot(
-    pack: &Pack,
-    s: Span,
-    b: Bounds,
-    p: u64,
-    l: Floors,
-    e: u64,
-) -> Witness
+fn part_spot(pack: &Pack, s: Span, b: Bounds, p: u64, l: Floors, e: u64) -> Witness
     requires e_le_max_exponent { (e ≤ max_exponent) × (s.to ≤ relation_room) × (s.stop ≤ relation_room) × Under (joined_in (table_of pack.now) s) l }
     requires p_value { p ≡ profile_of (bounded b (joined_in (table_of pack.now) s)) }
     ensures { (spot_rank result ≡ kind_spot false e (bounded b (joined_in (table_of pack.now) s))) × Proper result }
@@ -124,14 +111,7 @@ fn comes_first(p: u64, q: u64, i: u64) -> bool
 }
 
 // The least number at e.
-fn spot_at(
-    pack: &Pack,
-    s: Span,
-    b: Bounds,
-    p: u64,
-    l: Floors,
-    e: u64,
-) -> Witness
+fn spot_at(pack: &Pack, s: Span, b: Bounds, p: u64, l: Floors, e: u64) -> Witness
     requires e_le_max_exponent { (e ≤ max_exponent) × (s.to ≤ relation_room) × (s.stop ≤ relation_room) × Under (joined_in (table_of pack.now) s) l }
     requires p_value { (p ≡ profile_of (bounded b (joined_in (table_of pack.now) s))) × (e ≡ exponent_of (bounded b (joined_in (table_of pack.now) s))) }
     ensures { (spot_rank result ≡ clause_rank (bounded b (joined_in (table_of pack.now) s))) × Proper result }
@@ -150,13 +130,7 @@ fn spot_at(
 }
 
 // The least number of the clause whose v is within the bounds; p is the profile of both.
-pub fn clause_spot(
-    pack: &Pack,
-    s: Span,
-    b: Bounds,
-    p: u64,
-    l: Floors,
-) -> Witness
+pub fn clause_spot(pack: &Pack, s: Span, b: Bounds, p: u64, l: Floors) -> Witness
     requires to_le_relation_room { (s.to ≤ relation_room) × (s.stop ≤ relation_room) × Under (joined_in (table_of pack.now) s) l }
     requires p_value { p ≡ profile_of (bounded b (joined_in (table_of pack.now) s)) }
     ensures { (spot_rank result ≡ clause_rank (bounded b (joined_in (table_of pack.now) s))) × Proper result }

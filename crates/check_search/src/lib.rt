@@ -32,31 +32,16 @@ use pack_rules::Pack;
 // The least admitted number that meets the relations of both stretches and whose v is within the
 // bounds; order::nowhere() where there is none. p is the relations' profile; the floors, and the profile's last
 // digits, spare the search what lies below them.
-pub fn least_admitted(
-    pack: &Pack,
-    s: Span,
-    b: Bounds,
-    p: u64,
-    l: Floors,
-) -> Witness
+pub fn least_admitted(pack: &Pack, s: Span, b: Bounds, p: u64, l: Floors) -> Witness
     requires { (s.to ≤ relation_room) × (s.stop ≤ relation_room) × (p ≡ profile_of (joined_in (table_of pack.now) s)) × Under (joined_in (table_of pack.now) s) l }
     ensures { (spot_rank result ≡ least_rank (λ (x : Number). both (within_places b x) (clause_holds (joined_in (table_of pack.now) s) x))) × Proper result }
 {
-    clause::clause_spot(
-        pack,
-        s,
-        b,
-        check_profile::within(p, b),
-        floor::raise(p, l),
-    )
+    clause::clause_spot(pack, s, b, check_profile::within(p, b), floor::raise(p, l))
 }
 
 // The least i where f is 0, the least i where it is not, and the least t, of the relations of both
 // stretches: floors of each clause that they are a part of.
-pub fn floors_of(
-    pack: &Pack,
-    s: Span,
-) -> Floors
+pub fn floors_of(pack: &Pack, s: Span) -> Floors
     requires { (s.to ≤ relation_room) × (s.stop ≤ relation_room) }
     ensures under { Under (joined_in (table_of pack.now) s) result }
     ensures whole_value { (result.whole ≡ search (query_i true) (joined_in (table_of pack.now) s) 0 (10 ^ max_digits)) × (result.part ≡ search (query_i false) (joined_in (table_of pack.now) s) 0 (10 ^ max_digits)) × (result.tail ≡ search alone (joined_in (table_of pack.now) s) 0 (10 ^ max_places)) }

@@ -11,9 +11,9 @@ ghost use Rattle.check_table.specs.Building.{Looked, Opens};
 
 use crate::Found;
 use check_laws::{Query, Span};
-use check_next::{LevelPlaces, Segments, next};
-use check_runs::KEPT;
+use check_next::{NextTable, next};
 use check_runs::clause::clause_run;
+use check_runs::{LevelList, Runs};
 use decimal::num::lesser;
 use pack_rules::Pack;
 
@@ -23,29 +23,24 @@ fn look(
     pack: &Pack,
     s: Span,
     q: Query,
-    list: &[usize; KEPT],
-    count: usize,
-    level: usize,
-    starts: &Segments,
-    ends: &Segments,
-    at: &LevelPlaces,
+    list: &LevelList,
+    table: &NextTable,
     j: usize,
     p: u64,
     end: u64,
-    says: &mut [bool; KEPT],
-    stop: &mut [u64; KEPT],
+    runs: &mut Runs,
 ) -> Found
-    requires fit { Fit q × Room q end × (p < end) × (s.to ≤ relation_room) × (s.stop ≤ relation_room) × (size_of s ≤ kept_room) × Listed (table_of pack.now) s q level list.now count }
-    requires laid { Laid starts.now ends.now at.now j }
-    requires tabled { Tabled (below q (joined_in (table_of pack.now) s)) starts.now ends.now at.now j }
-    requires kept { Kept (table_of pack.now) s q level p says.old stop.old }
-    ensures looked { Looked (own q (joined_in (table_of pack.now) s) level) (below q (joined_in (table_of pack.now) s) j) p end result.at result.stop }
-    ensures kept_2 { Kept (table_of pack.now) s q level p says.new stop.new }
+    requires fit { Fit q × Room q end × (p < end) × (s.to ≤ relation_room) × (s.stop ≤ relation_room) × (size_of s ≤ kept_room) × Listed (table_of pack.now) s q list.now.level list.now.at list.now.count }
+    requires laid { Laid table.now.starts table.now.ends table.now.at j }
+    requires tabled { Tabled (below q (joined_in (table_of pack.now) s)) table.now.starts table.now.ends table.now.at j }
+    requires kept { Kept (table_of pack.now) s q list.now.level p runs.old.says runs.old.stop }
+    ensures looked { Looked (own q (joined_in (table_of pack.now) s) list.now.level) (below q (joined_in (table_of pack.now) s) j) p end result.at result.stop }
+    ensures kept_2 { Kept (table_of pack.now) s q list.now.level p runs.new.says runs.new.stop }
 {
-    let run = clause_run(pack, s, q, list, count, level, p, says, stop);
+    let run = clause_run(pack, s, q, list, p, runs);
     if run.says {
         return Found {
-            at: next(starts, ends, at, j, p),
+            at: next(table, j, p),
             stop: lesser(run.stop, end),
         };
     }
@@ -62,30 +57,23 @@ pub fn find(
     pack: &Pack,
     s: Span,
     q: Query,
-    list: &[usize; KEPT],
-    count: usize,
-    level: usize,
-    starts: &Segments,
-    ends: &Segments,
-    at: &LevelPlaces,
+    list: &LevelList,
+    table: &NextTable,
     j: usize,
     from: u64,
     end: u64,
-    says: &mut [bool; KEPT],
-    stop: &mut [u64; KEPT],
+    runs: &mut Runs,
 ) -> Found
-    requires fit { Fit q × Room q end × (from ≤ end) × (s.to ≤ relation_room) × (s.stop ≤ relation_room) × (size_of s ≤ kept_room) × Listed (table_of pack.now) s q level list.now count }
-    requires laid { Laid starts.now ends.now at.now j }
-    requires tabled { Tabled (below q (joined_in (table_of pack.now) s)) starts.now ends.now at.now j }
-    requires kept { Kept (table_of pack.now) s q level from says.old stop.old }
-    ensures opens { Opens (own q (joined_in (table_of pack.now) s) level) (below q (joined_in (table_of pack.now) s) j) from end result.at result.stop }
-    ensures kept_2 { Kept (table_of pack.now) s q level result.stop says.new stop.new }
+    requires fit { Fit q × Room q end × (from ≤ end) × (s.to ≤ relation_room) × (s.stop ≤ relation_room) × (size_of s ≤ kept_room) × Listed (table_of pack.now) s q list.now.level list.now.at list.now.count }
+    requires laid { Laid table.now.starts table.now.ends table.now.at j }
+    requires tabled { Tabled (below q (joined_in (table_of pack.now) s)) table.now.starts table.now.ends table.now.at j }
+    requires kept { Kept (table_of pack.now) s q list.now.level from runs.old.says runs.old.stop }
+    ensures opens { Opens (own q (joined_in (table_of pack.now) s) list.now.level) (below q (joined_in (table_of pack.now) s) j) from end result.at result.stop }
+    ensures kept_2 { Kept (table_of pack.now) s q list.now.level result.stop runs.new.says runs.new.stop }
 {
     let mut p = from;
     while p < end {
-        let f = look(
-            pack, s, q, list, count, level, starts, ends, at, j, p, end, says, stop,
-        );
+        let f = look(pack, s, q, list, table, j, p, end, runs);
         if f.at < f.stop {
             return f;
         }

@@ -10,15 +10,12 @@ use check_laws::Checked;
 use pack_rules::Pack;
 use pack_verdict::Read;
 
-
 fn checked_by(c: Checked) -> Result<(), Refusal>
     ensures { result ≡ checked_by c }
 {
     match c {
         Checked::Passes => Ok(()),
-        Checked::Clashes(pair, x) => Err(Refusal::Rules(RulesRow::RulesClash(
-            pair, x,
-        ))),
+        Checked::Clashes(pair, x) => Err(Refusal::Rules(RulesRow::RulesClash(pair, x))),
     }
 }
 
@@ -27,14 +24,9 @@ fn check_read(pack: &[u8]) -> Result<(), Refusal>
     ensures { result ≡ check_pack pack.now }
 {
     let mut pack = pack_rules::empty();
-    let read = pack_reader::read_pack(
-        pack,
-        &mut pack,
-    );
+    let read = pack_reader::read_pack(pack, &mut pack);
     match read {
-        Ok(count) => checked_by(check_pairs::check(
-            &pack,
-        )),
+        Ok(count) => checked_by(check_pairs::check(&pack)),
         Err(refusal) => Err(refusal),
     }
 }

@@ -11,14 +11,14 @@ pub returns-then-clause_holds : goal.returns-then-clause_holds
 returns-then-clause_holds c =
     let a = c.args in
     let T = table_of a.pack.now in
-    let h : c.clause_holds.result ≡ clause_holds (clause_at T a.pack.now.relations c.loop-j.j) a.x = c.clause_holds.ensures ∙ rw (c.relations_start.ensures, c.relations_stop.ensures) in
+    let h : c.clause_holds.result ≡ clause_holds (clause_at T a.pack.now.relations c.loop-j.j) a.x = c.clause_holds.ensures ∙ rw (c.start_at.ensures, c.stop_at.ensures) in
     sym (sym c.loop-j.invariant ∙ any_found (λ (r : List Relation). clause_holds r a.x) (clause_at T a.pack.now.relations) c.loop-j.j a.to c.loop-j-test.true (sym h ∙ c.if-clause_holds.true))
 
 pub loop-j-preserved : goal.loop-j-preserved
 loop-j-preserved c =
     let a = c.args in
     let T = table_of a.pack.now in
-    let h : c.clause_holds.result ≡ clause_holds (clause_at T a.pack.now.relations c.loop-j.j) a.x = c.clause_holds.ensures ∙ rw (c.relations_start.ensures, c.relations_stop.ensures) in
+    let h : c.clause_holds.result ≡ clause_holds (clause_at T a.pack.now.relations c.loop-j.j) a.x = c.clause_holds.ensures ∙ rw (c.start_at.ensures, c.stop_at.ensures) in
     sym (any_next (λ (r : List Relation). clause_holds r a.x) (clause_at T a.pack.now.relations) c.loop-j.j a.to c.loop-j-test.true (sym h ∙ c.if-clause_holds.false)) ∙ c.loop-j.invariant
 
 pub returns : goal.returns

@@ -14,7 +14,7 @@ pub loop-j-preserved : goal.loop-j-preserved
 loop-j-preserved c =
     let a = c.args in
     let T = table_of a.pack.now in
-    (c.loop-j.invariant.0, floored_set T a.pack.now.relations c.loop-j.whole c.loop-j.part c.loop-j.tail c.clause_floors-l.result c.loop-j.j c.loop-j.invariant.1 c.clause_floors-l.ensures)
+    (c.loop-j.invariant.0, floored_set T a.pack.now.relations c.loop-j.floors.whole c.loop-j.floors.part c.loop-j.floors.tail c.clause_floors-l.result c.loop-j.j c.loop-j.invariant.1 c.clause_floors-l.ensures)
 
 pub returns : goal.returns
 returns c = c.loop-j.invariant.1

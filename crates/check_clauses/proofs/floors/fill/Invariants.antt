@@ -6,7 +6,7 @@ use Rattle.check_clauses.proofs.floors.fill.Given as goal
 
 abbrev pub invariant-loop-j : goal.invariant-loop-j
 invariant-loop-j l =
-    (l.to ≤ 40) × Floored (table_of l.pack) l.pack.relations l.whole l.part l.tail
+    (l.to ≤ 40) × Floored (table_of l.pack) l.pack.relations l.floors.whole l.floors.part l.floors.tail
 
 abbrev pub decreases-loop-j : goal.decreases-loop-j
 decreases-loop-j l = l.to - l.j

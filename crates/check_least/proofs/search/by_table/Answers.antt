@@ -18,7 +18,7 @@ list_level-count-requires c = (omega (arith, c.size_of.ensures, c.requires.fit.5
 pub find-f-requires : goal.find-f-requires
 find-f-requires c = let a = c.args in let T = table_of a.pack.now in let p = c.requires in
     record {
-      fit = (p.fit.0, p.fit.1, p.fit.2, p.fit.3, p.fit.4, p.fit.5, gathered_listed T a.s a.q 7 a.tiers.now c.list_level-count.new.list c.list_level-count.result c.size_of.result (omega arith) p.fit.6 c.size_of.ensures (omega (arith, c.size_of.ensures, p.fit.5)) c.list_level-count.ensures);
+      fit = (p.fit.0, p.fit.1, p.fit.2, p.fit.3, p.fit.4, p.fit.5, gathered_listed T a.s a.q 7 a.marks.now.tiers c.list_level-count.new.list c.list_level-count.result c.size_of.result (omega arith) p.fit.6 c.size_of.ensures (omega (arith, c.size_of.ensures, p.fit.5)) c.list_level-count.ensures);
       laid = p.laid;
       tabled = p.tabled;
       kept = kept_fresh T a.s a.q 7 a.lo;

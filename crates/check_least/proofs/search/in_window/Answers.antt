@@ -26,7 +26,7 @@ clause_run-run-requires c = let a = c.args in let T = table_of a.pack.now in let
     record {
       fit = p.0;
       room = room_le a.q c.loop-p.p a.hi p.1 (omega (arith, c.loop-p-test.true));
-      to_le_relation_room = (p.3, p.4, p.5, gathered_listed T a.s a.q window a.tiers.now c.list_level-count.new.list c.list_level-count.result c.size_of.result (omega arith) p.6 c.size_of.ensures (omega (arith, c.size_of.ensures, p.5)) c.list_level-count.ensures);
+      to_le_relation_room = (p.3, p.4, p.5, gathered_listed T a.s a.q window a.marks.now.tiers c.list_level-count.new.list c.list_level-count.result c.size_of.result (omega arith) p.6 c.size_of.ensures (omega (arith, c.size_of.ensures, p.5)) c.list_level-count.ensures);
       kept = i.1;
     }
 

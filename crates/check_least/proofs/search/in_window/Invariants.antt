@@ -9,7 +9,7 @@ use Rattle.check_least.proofs.search.in_window.Given as goal
 
 abbrev pub invariant-loop-p : goal.invariant-loop-p
 invariant-loop-p l =
-    Passed (own l.q (joined_in (table_of l.pack) l.s) window) l.lo l.p × Kept (table_of l.pack) l.s l.q window l.p l.says l.stop
+    Passed (own l.q (joined_in (table_of l.pack) l.s) window) l.lo l.p × Kept (table_of l.pack) l.s l.q window l.p l.runs.says l.runs.stop
 
 abbrev pub decreases-loop-p : goal.decreases-loop-p
 decreases-loop-p l = l.hi - l.p

@@ -7,7 +7,7 @@ use Rattle.check_runs.proofs.clause.clause_run.Given as goal
 
 abbrev pub invariant-loop-i : goal.invariant-loop-i
 invariant-loop-i l =
-    Agreed (table_of l.pack) l.s l.q l.level l.list l.p l.i l.end × Kept (table_of l.pack) l.s l.q l.level l.p l.says l.stop
+    Agreed (table_of l.pack) l.s l.q l.level l.list l.p l.i l.end × Kept (table_of l.pack) l.s l.q l.level l.p l.runs.says l.runs.stop
 
 abbrev pub decreases-loop-i : goal.decreases-loop-i
 decreases-loop-i l = l.count - l.i

@@ -15,7 +15,7 @@ returns-then-p-end c =
     let a = c.args in
     let p = c.requires in
     record {
-      alike = kept_there (table_of a.pack.now) a.s a.q a.level a.p a.says.now a.stop.now a.k p.kept p.to_le_relation_room.2 c.if-p-end.true;
+      alike = kept_there (table_of a.pack.now) a.s a.q a.level a.p a.runs.now.says a.runs.now.stop a.k p.kept p.to_le_relation_room.2 c.if-p-end.true;
       kept_2 = p.kept;
     }
 
@@ -43,5 +43,5 @@ returns c =
     let f : Alike (own_one a.q a.level (relation_of T a.s a.k)) a.p r.says r.stop = subst (λ (s : Single). Alike (own_one a.q a.level (relation_by a.pack.now.low a.pack.now.high s)) a.p r.says r.stop) e c.own_run-r.ensures.alike in
     record {
       alike = f;
-      kept_2 = kept_set T a.s a.q a.level a.p a.says.now a.stop.now a.k r.stop r.says (omega (arith, c.requires.to_le_relation_room.3)) (omega (arith, c.requires.to_le_relation_room.3)) f c.requires.kept;
+      kept_2 = kept_set T a.s a.q a.level a.p a.runs.now.says a.runs.now.stop a.k r.stop r.says (omega (arith, c.requires.to_le_relation_room.3)) (omega (arith, c.requires.to_le_relation_room.3)) f c.requires.kept;
     }

@@ -6,7 +6,7 @@ use Rattle.check_runs.specs.Kept.{Gathered}
 use Rattle.check_runs.proofs.marks.list_level.Given as goal
 
 abbrev pub invariant-loop-k : goal.invariant-loop-k
-invariant-loop-k l = Gathered l.tiers l.level l.list l.n l.k × (length l.list ≡ 16) × (l.k ≤ l.size)
+invariant-loop-k l = Gathered l.marks.tiers l.level l.list l.n l.k × (length l.list ≡ 16) × (l.k ≤ l.size)
 
 abbrev pub decreases-loop-k : goal.decreases-loop-k
 decreases-loop-k l = l.size - l.k

@@ -10,8 +10,8 @@ use Rattle.check_runs.proofs.marks.mark.Goals as goal
 pub returns : goal.returns
 returns c =
     let a = c.args in
-    let h : a.l < length a.asked.now = omega (arith) in
+    let h : a.l < length a.marks.now.asked = omega (arith) in
     record {
-      false_after = get_or-set_same a.asked.now a.l true false h;
-      grown = grown_set a.asked.now a.l h;
+      false_after = get_or-set_same a.marks.now.asked a.l true false h;
+      grown = grown_set a.marks.now.asked a.l h;
     }

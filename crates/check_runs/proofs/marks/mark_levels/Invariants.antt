@@ -9,7 +9,7 @@ use Rattle.check_runs.proofs.marks.mark_levels.Given as goal
 abbrev pub invariant-loop-k : goal.invariant-loop-k
 invariant-loop-k l =
     let T = table_of l.pack in
-    Marks T l.s l.q l.k l.asked × (l.size ≡ size_of l.s) × Telling T l.s l.q l.k l.tiers
+    Marks T l.s l.q l.k l.marks.asked × (l.size ≡ size_of l.s) × Telling T l.s l.q l.k l.marks.tiers
 
 abbrev pub decreases-loop-k : goal.decreases-loop-k
 decreases-loop-k l = l.size - l.k

@@ -10,7 +10,7 @@ returns-then-k-eq0 c =
     let f = c.factor_of-k in
     record {
       by_index = λ low high. tier_unasked a.q (relation_by low high a.s) f.result f.ensures c.if-k-eq0.true;
-      by_index_2 = λ low high. noted_not a.q (relation_by low high a.s) f.result f.ensures a.asked.now c.if-k-eq0.true;
+      by_index_2 = λ low high. noted_not a.q (relation_by low high a.s) f.result f.ensures a.marks.now.asked c.if-k-eq0.true;
       grown = λ i h. h;
     }
 
@@ -27,6 +27,6 @@ returns c =
     let e = rw c.wide.ensures at l.ensures.value in
     record {
       by_index = λ low high. tier_asked a.q (relation_by low high a.s) f.result f.ensures l.result c.if-k-eq0.false e;
-      by_index_2 = λ low high. noted_at a.q (relation_by low high a.s) f.result f.ensures c.mark.new.asked l.result e c.mark.ensures.false_after;
+      by_index_2 = λ low high. noted_at a.q (relation_by low high a.s) f.result f.ensures c.mark.new.marks.asked l.result e c.mark.ensures.false_after;
       grown = c.mark.ensures.grown;
     }

@@ -10,7 +10,7 @@ use Rattle.check_table.proofs.find.find.Given as goal
 abbrev pub invariant-loop-p : goal.invariant-loop-p
 invariant-loop-p l =
     let c = joined_in (table_of l.pack) l.s in
-    (l.from ≤ l.p) × NoneTo (own l.q c l.level) (below l.q c l.j) l.from l.p × Kept (table_of l.pack) l.s l.q l.level l.p l.says l.stop
+    (l.from ≤ l.p) × NoneTo (own l.q c l.level) (below l.q c l.j) l.from l.p × Kept (table_of l.pack) l.s l.q l.level l.p l.runs.says l.runs.stop
 
 abbrev pub decreases-loop-p : goal.decreases-loop-p
 decreases-loop-p l = l.end - l.p

@@ -7,7 +7,7 @@ use Rattle.check_table.proofs.level.build.Given as goal
 
 abbrev pub invariant-loop-j : goal.invariant-loop-j
 invariant-loop-j l =
-    Building l.q (joined_in (table_of l.pack) l.s) l.starts l.ends l.at l.j l.m
+    Building l.q (joined_in (table_of l.pack) l.s) l.table.starts l.table.ends l.table.at l.j l.m
 
 abbrev pub decreases-loop-j : goal.decreases-loop-j
 decreases-loop-j l = 7 - l.j

@@ -21,7 +21,7 @@ loop-p-init c = let a = c.args in let T = table_of a.pack.now in let p = c.requi
 pub find-f-requires : goal.find-f-requires
 find-f-requires c = let a = c.args in let T = table_of a.pack.now in let p = c.requires in let i = c.loop-p.invariant in
     record {
-      fit = (p.fit.0, fit_room a.q a.m p.fit.0 (omega (arith, level_small a.j a.m p.fit.4 p.fit.5)), i.0.reach, p.fit.1, p.fit.2, p.fit.3, gathered_listed T a.s a.q a.j a.tiers.now c.list_level-count.new.list c.list_level-count.result c.size_of.result (omega (arith, p.fit.4)) p.fit.6 c.size_of.ensures (omega (arith, c.size_of.ensures, p.fit.3)) c.list_level-count.ensures);
+      fit = (p.fit.0, fit_room a.q a.m p.fit.0 (omega (arith, level_small a.j a.m p.fit.4 p.fit.5)), i.0.reach, p.fit.1, p.fit.2, p.fit.3, gathered_listed T a.s a.q a.j a.marks.now.tiers c.list_level-count.new.list c.list_level-count.result c.size_of.result (omega (arith, p.fit.4)) p.fit.6 c.size_of.ensures (omega (arith, c.size_of.ensures, p.fit.3)) c.list_level-count.ensures);
       laid = i.0.laid;
       tabled = i.0.tabled;
       kept = i.1;

@@ -9,7 +9,7 @@ use Rattle.check_table.proofs.level.fill_level.Given as goal
 
 abbrev pub invariant-loop-p : goal.invariant-loop-p
 invariant-loop-p l =
-    Filling (below l.q (joined_in (table_of l.pack) l.s)) (own l.q (joined_in (table_of l.pack) l.s) l.j) l.starts l.ends l.at l.j l.m l.n l.p × Kept (table_of l.pack) l.s l.q l.j l.p l.says l.stop
+    Filling (below l.q (joined_in (table_of l.pack) l.s)) (own l.q (joined_in (table_of l.pack) l.s) l.j) l.table.starts l.table.ends l.table.at l.j l.m l.n l.p × Kept (table_of l.pack) l.s l.q l.j l.p l.runs.says l.runs.stop
 
 abbrev pub decreases-loop-p : goal.decreases-loop-p
 decreases-loop-p l = l.m - l.p
