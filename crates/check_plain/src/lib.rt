@@ -10,7 +10,7 @@ mod operands;
 mod search;
 
 ghost use Rattle.std.specs.Prelude.{◌≡◌, min};
-ghost use Rattle.pack_rules.specs.Held.{held_rules, lent};
+ghost use Rattle.pack_rules.specs.Held.{held_rules};
 ghost use Rattle.check_laws.specs.Check.{check_of};
 
 use check_laws::Checked;

@@ -5,7 +5,7 @@
 
 ghost use Rattle.std.specs.Prelude.{◌≡◌};
 ghost use Rattle.decimal.specs.Choice.{both};
-ghost use Rattle.pack_rules.specs.Held.{held_rules, lent};
+ghost use Rattle.pack_rules.specs.Held.{held_rules};
 ghost use Rattle.check_laws.specs.Check.{check_of};
 ghost use Rattle.engines_table.specs.Same.{same_pair, same_number, same_clash, same_answer};
 

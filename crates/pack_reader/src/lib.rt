@@ -9,7 +9,6 @@
 
 ghost use Rattle.std.specs.Prelude.{◌≡◌};
 ghost use Rattle.pack_grammar.specs.Reader.{read_pack};
-ghost use Rattle.pack_rules.specs.Held.{lent};
 ghost use Rattle.pack_reader.specs.Answer.{count_in, ReadAs};
 ghost use Rattle.pack_reader.specs.Board.{token_at, start_walk, within4096};
 

@@ -9,7 +9,7 @@ mod mask;
 
 ghost use Rattle.std.specs.Prelude.{◌≡◌, ◌<◌, length, get_or};
 ghost use Rattle.pack_rules.specs.Room.{rule_room};
-ghost use Rattle.pack_rules.specs.Held.{keyword_of, held_rules, lent};
+ghost use Rattle.pack_rules.specs.Held.{keyword_of, held_rules};
 ghost use Rattle.pack_rules.specs.Stretch.{table_of};
 ghost use Rattle.meaning.specs.Places.{met_at};
 ghost use Rattle.select.specs.Select.{selection};
@@ -39,12 +39,12 @@ fn keyword_at(pack: &Pack, k: usize) -> Keyword
     keyword_of(pack.keyword[k])
 }
 
-// The word of a number by the first `count` rules in a pack's arrays, or refusal 27 with the first two
+// The word of a number by a pack, or refusal 27 with the first two
 // rules that it meets.
 pub fn select_held(pack: &Pack, x: Number) -> Result<Keyword, Refusal>
     ensures { result ≡ selection (held_rules pack.now) x }
 {
-    let m = mask::met_mask(pack, x);
+    let m = mask::met_mask(pack, pack.count, x);
     let met = u32::count_ones(m);
     if met == 0 {
         return Ok(Keyword::Other);
@@ -65,8 +65,5 @@ pub fn select_held(pack: &Pack, x: Number) -> Result<Keyword, Refusal>
 pub fn meets_held(pack: &Pack, j: usize, x: Number) -> bool
     ensures { result ≡ met_at (table_of pack.now) pack.now.relations pack.now.clauses x j }
 {
-    if j < pack.clauses.len() {
-        return mask::met_at(pack, j, x);
-    }
-    false
+    pack.clauses.get(j).is_some() && mask::met_at(pack, j, x)
 }

@@ -30,10 +30,10 @@ pub fn met_at(pack: &Pack, j: usize, x: Number) -> bool
 }
 
 // The bits of the first `count` rules.
-pub fn met_mask(pack: &Pack, x: Number) -> u32
-    ensures { result ≡ mask_of (stretch (met_at (table_of pack.now) pack.now.relations pack.now.clauses x) 0 (min pack.now.count 6)) }
+pub fn met_mask(pack: &Pack, count: usize, x: Number) -> u32
+    ensures { result ≡ mask_of (stretch (met_at (table_of pack.now) pack.now.relations pack.now.clauses x) 0 (min count 6)) }
 {
-    let rules = pack.count.min(RULE_ROOM);
+    let rules = count.min(RULE_ROOM);
     let mut mask: u32 = 0;
     let mut bit: u32 = 0;
     let mut j = 0;

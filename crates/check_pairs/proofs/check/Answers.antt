@@ -1,6 +1,5 @@
 -- `check_pairs::check`: the profiles and floors are filled in, and the pairs in turn are those of the rules that the pack holds.
 use native.Mathlib.Omega.{arith}
-use Rattle.pack_rules.specs.Held.{lent}
 use Rattle.pack_rules.specs.Stretch.{table, table_of}
 use Rattle.check_laws.proofs.Flooring.{floored_fresh}
 use Rattle.check_laws.proofs.Holding.{held_is}

@@ -3,7 +3,6 @@ use mathlib.Core.List.{List}
 use Prim.Native.Nat.{ℕ}
 use Rattle.answer.specs.declared.Keyword.TheVariants.{Other}
 use Rattle.pack_rules.specs.Syntax.{Relation}
-use Rattle.pack_rules.specs.Held.{lent}
 use Rattle.check_laws.specs.Check.{clash_of}
 use Rattle.check_laws.proofs.Holding.{held_by}
 use borrow.Author.Rules.{rules}

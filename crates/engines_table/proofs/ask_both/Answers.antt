@@ -1,5 +1,4 @@
 -- `engines_table::ask_both` has two equal answers, by the contracts of the two engines.
-use Rattle.pack_rules.specs.Held.{lent}
 use Rattle.engines_table.proofs.Agree.{engines_agree}
 use Rattle.engines_table.proofs.ask_both.Goals as goal
 

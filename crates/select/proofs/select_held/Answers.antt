@@ -3,7 +3,6 @@ use Rattle.std.specs.Prelude.{Ok}
 use native.Mathlib.Omega.{arith}
 use mathlib.Core.Path.{ap, ◌∙◌}
 use Rattle.pack_rules.specs.declared.Pack.{Pack}
-use Rattle.pack_rules.specs.Held.{lent}
 use Rattle.pack_rules.proofs.Stretches.{Sized}
 use Rattle.select.proofs.Selections.{Met, met, first_small, none_met, one_met, second_small, two_met}
 use borrow.Author.Rules.{rules}

@@ -3,7 +3,7 @@ use native.Mathlib.Omega.{arith}
 use mathlib.Core.Path.{◌≡◌, refl, ap, ◌∙◌}
 use Prim.Native.Nat.{ℕ, ◌<◌, ◌^◌, min}
 use Rattle.select.proofs.Masks.{mask_none, mask_more, mask_fits}
-use Rattle.pack_rules.specs.Stretch.{stretch, table, table_of}
+use Rattle.pack_rules.specs.Stretch.{stretch, table_of}
 use Rattle.select.specs.Select.{mask_of}
 use Rattle.meaning.specs.Places.{met_at}
 use Rattle.select.proofs.mask.met_mask.Goals as goal

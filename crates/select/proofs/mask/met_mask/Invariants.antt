@@ -1,7 +1,7 @@
 -- `select::mask::met_mask` gathers the met rules, a bit each. The invariant: the mask is that of the rules passed.
 use mathlib.Core.Path.{◌≡◌}
 use Prim.Native.Nat.{◌-◌, ◌≤◌}
-use Rattle.pack_rules.specs.Stretch.{stretch, table, table_of}
+use Rattle.pack_rules.specs.Stretch.{stretch, table_of}
 use Rattle.select.specs.Select.{mask_of}
 use Rattle.meaning.specs.Places.{met_at}
 use Rattle.select.proofs.mask.met_mask.Given as goal
