@@ -18,7 +18,7 @@ pub struct Runs {
 }
 
 // The levels that a clause asks, and the level of each of its relations.
-pub struct Marks {
+pub struct LevelMarks {
     pub asked: [bool; 9],
     pub tiers: [usize; KEPT],
 }

@@ -14,7 +14,7 @@ use check_laws::{Query, Span};
 use check_next::{NextTable, ROOM};
 use check_runs::clause::size_of;
 use check_runs::marks::list_level;
-use check_runs::{KEPT, Marks, Runs};
+use check_runs::{KEPT, LevelMarks, Runs};
 use pack_rules::Pack;
 
 pub const LEVELS: usize = 7;
@@ -26,7 +26,7 @@ fn fill_level(
     pack: &Pack,
     s: Span,
     q: Query,
-    marks: &Marks,
+    marks: &LevelMarks,
     table: &mut NextTable,
     j: usize,
     m: u64,
@@ -67,7 +67,7 @@ fn add_level(
     pack: &Pack,
     s: Span,
     q: Query,
-    marks: &Marks,
+    marks: &LevelMarks,
     table: &mut NextTable,
     j: usize,
     m: u64,
@@ -95,7 +95,7 @@ fn add_level(
 }
 
 // Builds the levels of the table in turn.
-pub fn build(pack: &Pack, s: Span, q: Query, marks: &Marks, table: &mut NextTable) -> Built
+pub fn build(pack: &Pack, s: Span, q: Query, marks: &LevelMarks, table: &mut NextTable) -> Built
     requires fit { Fit q × (s.to ≤ relation_room) × (s.stop ≤ relation_room) × (size_of s ≤ kept_room) × Told (table_of pack.now) s q marks.now.tiers }
     requires by_index { (j : ℕ) → j < 9 → get_or marks.now.asked j false ≡ false → (x : ℕ) → own q (joined_in (table_of pack.now) s) j x ≡ true }
     requires laid { Laid table.old.starts table.old.ends table.old.at 0 }
