@@ -17,6 +17,7 @@ pub type Segments = [u32; ROOM];
 pub type LevelPlaces = [usize; 8];
 
 // The segments of all levels: where they start and end, and where those of each level begin.
+#[derive(Drop)]
 pub struct NextTable {
     pub starts: Segments,
     pub ends: Segments,

@@ -31,6 +31,7 @@ pub type RuleEnds = [usize; RULE_ROOM];
 
 // A pack that was read. Every array is filled from its front; what lies past the filled part means
 // nothing.
+#[derive(Drop)]
 pub struct Pack {
     // The ends of ranges `a..b`; a value a is the range a..a.
     pub low: RangeEnds,
