@@ -37,11 +37,9 @@ pub fn next(table: &NextTable, j: usize, x: u64) -> u64
 {
     let mut y = x;
     let mut m: u64 = 1;
-    let mut i: usize = 0;
-    while i < j {
+    for i in 0..j {
         y = climb::climb(table, table.at[i], table.at[i + 1], m, x, y);
         m *= 10;
-        i += 1;
     }
     y
 }
