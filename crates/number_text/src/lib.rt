@@ -7,10 +7,10 @@
 ghost use Rattle.std.specs.Prelude.{◌≡◌};
 ghost use Rattle.decimal.specs.Digits.{AllDigits};
 ghost use Rattle.number.specs.Grammar.{is_mark, is_exponent};
-ghost use Rattle.number.specs.Reading.{exponent_at, fraction_at, point_at, whole_at, parts_of, judged, read_number};
+ghost use Rattle.number.specs.Reading.{exponent_at, point_at, whole_at, judged, read_number};
 
 use answer::NumberRow;
-use decimal::scan;
+use decimal::{cut, scan};
 use number::Reading;
 
 // `c` or `e`
@@ -39,27 +39,17 @@ fn read_exponent(negative: bool, whole: &[u8], fraction: &[u8], s: &[u8]) -> Rea
     number::parted(negative, whole, fraction, exponent)
 }
 
-// Behind the point: one or more digits.
-fn read_fraction(negative: bool, whole: &[u8], s: &[u8]) -> Reading
-    requires { AllDigits whole.now }
-    ensures { result ≡ judged (fraction_at negative whole.now s.now) }
-{
-    let (fraction, rest) = s.split_at(scan::digit_run(s));
-    if fraction.is_empty() {
-        number::refuse(NumberRow::NotANumber)
-    } else {
-        read_exponent(negative, whole, fraction, rest)
-    }
-}
-
 fn read_point(negative: bool, whole: &[u8], s: &[u8]) -> Reading
     requires { AllDigits whole.now }
     ensures { result ≡ judged (point_at negative whole.now s.now) }
 {
-    match s {
-        [b'.', rest @ ..] => read_fraction(negative, whole, rest),
-        _ => read_exponent(negative, whole, b"", s),
+    let pointed = cut::begins_with(s, b'.');
+    let behind = cut::after(s, usize::from(pointed));
+    let n = if pointed { scan::digit_run(behind) } else { 0 };
+    if pointed && n == 0 {
+        return number::refuse(NumberRow::NotANumber);
     }
+    read_exponent(negative, whole, cut::upto(behind, n), cut::after(behind, n))
 }
 
 fn read_whole(negative: bool, s: &[u8]) -> Reading
@@ -67,20 +57,9 @@ fn read_whole(negative: bool, s: &[u8]) -> Reading
 {
     let (whole, rest) = s.split_at(scan::digit_run(s));
     if whole.is_empty() {
-        number::refuse(NumberRow::NotANumber)
-    } else {
-        read_point(negative, whole, rest)
+        return number::refuse(NumberRow::NotANumber);
     }
-}
-
-// An optional `-`, and what stands behind it.
-fn read_signed(s: &[u8]) -> Reading
-    ensures { result ≡ judged (parts_of s.now) }
-{
-    match s {
-        [b'-', rest @ ..] => read_whole(true, rest),
-        _ => read_whole(false, s),
-    }
+    read_point(negative, whole, rest)
 }
 
 // The number that a text spells, or refusals 10 to 15 in the order of the table.
@@ -88,8 +67,8 @@ pub fn read_number(text: &[u8]) -> Reading
     ensures { result ≡ read_number text.now }
 {
     if number::MAX_BYTES < text.len() {
-        number::refuse(NumberRow::NumberTooLong)
-    } else {
-        read_signed(text)
+        return number::refuse(NumberRow::NumberTooLong);
     }
+    let negative = cut::begins_with(text, b'-');
+    read_whole(negative, cut::after(text, usize::from(negative)))
 }
