@@ -4,9 +4,11 @@ use mathlib.Core.List.{List, [], ◌∷◌, ◌++◌}
 use Prim.Native.Nat.{ℕ, zero, suc, ◌+◌, ◌*◌, ◌-◌, ◌^◌, ◌≤◌, ◌<◌, min}
 use native.Mathlib.Omega.{arith}
 use native.Mathlib.Nat.{pow-succ', mul-le-mul_right, pow-le-pow_right, one-le-pow, zero-sub, sub-zero, suc-sub-suc}
+use native.Mathlib.Numerals.{add-one}
 use borrow.Author.Tests.{leb-true, leb-false}
 use lib.Dec.{leb}
-use lib.ListN.{length, take, replicate}
+use lib.ListN.{length, get_or, take, replicate}
+use lib.Seq.{take-suc}
 use Rattle.std.specs.List.{fold}
 use Rattle.decimal.specs.Digits.{is_digit, value_from, value, first, cap, AllDigits}
 use Rattle.decimal.proofs.Choices.{tested}
@@ -28,6 +30,10 @@ value_append n (b ∷ s) t = value_append (10 * n + (b - 48)) s t
 -- one more digit
 pub value_snoc : (n : ℕ) (s : List ℕ) (b : ℕ) → value_from n (s ++ (b ∷ [])) ≡ 10 * value_from n s + (b - 48)
 value_snoc n s b = value_append n s (b ∷ [])
+
+pub value_more : (n : ℕ) (s : List ℕ) (i : ℕ) → i < length s
+    → value_from n (take (i + 1) s) ≡ 10 * value_from n (take i s) + (get_or s i 0 - 48)
+value_more n s i h = rw (add-one, take-suc s i 0 h) (value_snoc n (take i s) (get_or s i 0))
 
 -- the first digits are those of the text, and zeros after its end
 first_zeros : (k : ℕ) → replicate k 48 ≡ first k []
