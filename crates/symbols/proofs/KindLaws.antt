@@ -148,9 +148,9 @@ a_kind s b t y m h body rest p e f q r =
     let g : head_in y (fitting m (suc (length t))) ≡ Some h = rw p at f in
     rw (p, q, r, ← upper_is b y m e) (stands_front length_of name_of b t y h (rw e g))
 
--- different symbols have different upper halves
-pub upper_apart : (x y : Symbol) → (x ≡ y → ⊥) → upper_of x ≡ upper_of y → ⊥
-upper_apart x y h e = h (sym (back x) ∙ (ap with_upper e ∙ back y))
+-- a symbol is told by its upper half
+pub upper_same : (x y : Symbol) → upper_of x ≡ upper_of y → x ≡ y
+upper_same x y e = sym (back x) ∙ (ap with_upper e ∙ back y)
   where
     with_upper : ℕ → Symbol
     with_upper u =
