@@ -1,15 +1,8 @@
 -- `pattern_affix::count_marks` looks for the mark's byte first: a text without it has no such mark.
 use native.Mathlib.Omega.{arith}
-use mathlib.Core.Path.{◌≡◌, sym, ◌∙◌}
-use mathlib.Core.Bool.{false}
-use lib.ListN.{length}
-use Rattle.decimal.specs.Split.{until}
-use Rattle.pattern_affix.specs.Firsts.{mark_byte}
-use Rattle.pattern_affix.proofs.Firsts.{marks_none}
+use mathlib.Core.Path.{sym}
+use Rattle.pattern_affix.proofs.Firsts.{no_marks}
 use Rattle.pattern_affix.proofs.count_marks.Goals as goal
 
-pub returns-then-run_until-s : goal.returns-then-run_until-s
-returns-then-run_until-s c =
-    let a = c.args in
-    let e : until (mark_byte a.m) a.s.now ≡ length a.s.now = rw c.mark_byte.ensures at (sym c.run_until.ensures.0 ∙ c.if-run_until-s.true) in
-    (sym (marks_none a.m false false 0 a.s.now e), omega arith)
+pub returns-else-contains : goal.returns-else-contains
+returns-else-contains c = (sym (no_marks c.args.m c.args.s.now (sym (rw c.mark_byte.ensures at c.if-contains.ensures.value))), omega arith)

@@ -11,16 +11,16 @@ pub overflow_add-n : goal.overflow_add-n
 overflow_add-n c = omega (arith, c.weigh-n.ensures.1, c.loop-i-test.true)
 
 pub overflow_add-i : goal.overflow_add-i
-overflow_add-i c = omega (arith, c.token_in-t.ensures.le_width c.loop-i-test.true)
+overflow_add-i c = omega (arith, c.token_in-item.ensures.le_width c.loop-i-test.true)
 
 pub loop-i-smaller : goal.loop-i-smaller
-loop-i-smaller c = omega (arith, c.token_in-t.ensures.le_width c.loop-i-test.true)
+loop-i-smaller c = omega (arith, c.token_in-item.ensures.le_width c.loop-i-test.true)
 
 pub loop-i-preserved : goal.loop-i-preserved
 loop-i-preserved c =
     let s = c.args.s.now in
     let l = c.loop-i in
-    let t = c.token_in-t in
+    let t = c.token_in-item in
     let w = t.ensures.le_width c.loop-i-test.true in (
       omega (arith, w),
       omega (arith, w, c.weigh-n.ensures.1),

@@ -8,21 +8,21 @@ pub returns-then-is_refused : goal.returns-then-is_refused
 returns-then-is_refused c =
     let s = c.args.s.now in
     let l = c.loop-i in
-    let t = c.token_in-t in
+    let t = c.token_in-item in
     sym (reserved_end s l.i l.quoted l.number c.loop-i-test.true t.result t.ensures.value (sym c.is_refused.ensures ∙ c.if-is_refused.true))
     ∙ l.invariant.1
 
 pub overflow_add-i : goal.overflow_add-i
-overflow_add-i c = omega (arith, c.token_in-t.ensures.le_width c.loop-i-test.true)
+overflow_add-i c = omega (arith, c.token_in-item.ensures.le_width c.loop-i-test.true)
 
 pub loop-i-smaller : goal.loop-i-smaller
-loop-i-smaller c = omega (arith, c.token_in-t.ensures.le_width c.loop-i-test.true)
+loop-i-smaller c = omega (arith, c.token_in-item.ensures.le_width c.loop-i-test.true)
 
 pub loop-i-preserved : goal.loop-i-preserved
 loop-i-preserved c =
     let s = c.args.s.now in
     let l = c.loop-i in
-    let t = c.token_in-t in (
+    let t = c.token_in-item in (
       omega (arith, t.ensures.le_width c.loop-i-test.true),
       reserved_again s l.i l.quoted l.number c.loop-i-test.true t.result t.ensures.value _ _ c.quoted_after-quoted.ensures c.is_number-number.ensures _
           (sym c.is_refused.ensures ∙ c.if-is_refused.false) l.invariant.1,
