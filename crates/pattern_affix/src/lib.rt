@@ -3,12 +3,12 @@
 // specs/Affixes.antt says what is asked, specs/Firsts.antt which bytes some tokens begin with.
 #![tactic(auto)]
 
-ghost use Rattle.std.specs.Prelude.{◌≡◌, ◌≤◌, length};
+ghost use Rattle.std.specs.Prelude.{◌≡◌, ◌==◌, ◌≤◌, length};
 ghost use Rattle.pattern_token.specs.Items.{items};
 ghost use Rattle.pattern_affix.specs.Firsts.{may_reserve, mark_byte};
 ghost use Rattle.pattern_affix.specs.Affixes.{reserves, any_reserved, ends_affix, affix, weight, marks};
 
-use pattern_token::{Item, Mark, Token, is_number, quoted_after, token_in};
+use pattern_token::{Item, Mark, Token, is_number, items_of, quoted_after, token_in};
 
 // An affix: how many bytes it has, and whether it leaves no quote open.
 #[derive(Clone, Copy)]
@@ -63,37 +63,13 @@ fn may_reserve(b: u8) -> bool
 pub fn has_reserved(s: &[u8]) -> bool
     ensures { result ≡ any_reserved (items s.now) }
 {
-    s.iter().any(|b| may_reserve(*b)) && finds_reserved(s)
+    s.iter().any(|b| may_reserve(*b)) && items_of(s).any(is_refused)
 }
 
-// The same, token by token.
-fn finds_reserved(s: &[u8]) -> bool
-    ensures { result ≡ any_reserved (items s.now) }
+fn is_mark(m: Mark, t: Item) -> bool
+    ensures { result ≡ (weight m t == 1) }
 {
-    let mut quoted = false;
-    let mut number = false;
-    let mut i = 0;
-    // By index: the step is the token's width.
-    while i < s.len() {
-        let Token { item, width } = token_in(s, i, quoted, number);
-        if is_refused(item) {
-            return true;
-        }
-        quoted = quoted_after(quoted, item);
-        number = is_number(item);
-        i += width;
-    }
-    false
-}
-
-// 1 where t is the mark m.
-fn weigh(m: Mark, t: Item) -> usize
-    ensures { (result ≡ weight m t) × (result ≤ 1) }
-{
-    match t {
-        Item::Symbol(k) if k == m => 1,
-        _ => 0,
-    }
+    matches!(t, Item::Symbol(k) if k == m)
 }
 
 // The byte that the mark m begins with.
@@ -113,27 +89,8 @@ pub fn count_marks(m: Mark, s: &[u8]) -> usize
     ensures { (result ≡ marks m (items s.now)) × (result ≤ length s.now) }
 {
     if s.contains(&mark_byte(m)) {
-        count_tokens(m, s)
+        items_of(s).filter(|t| is_mark(m, *t)).count()
     } else {
         0
     }
-}
-
-// The same, token by token.
-fn count_tokens(m: Mark, s: &[u8]) -> usize
-    ensures { (result ≡ marks m (items s.now)) × (result ≤ length s.now) }
-{
-    let mut quoted = false;
-    let mut number = false;
-    let mut n = 0;
-    let mut i = 0;
-    // By index: the step is the token's width.
-    while i < s.len() {
-        let Token { item, width } = token_in(s, i, quoted, number);
-        n += weigh(m, item);
-        quoted = quoted_after(quoted, item);
-        number = is_number(item);
-        i += width;
-    }
-    n
 }

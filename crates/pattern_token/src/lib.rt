@@ -5,7 +5,8 @@
 #![tactic(auto)]
 
 ghost use Rattle.std.specs.Prelude.{◌≡◌, ◌+◌, ◌≤◌, ◌<◌, length, drop};
-ghost use Rattle.pattern_token.specs.Items.{is_place, bare_of, token_at, quoted_after, is_number};
+ghost use Rattle.std.specs.Iterator.{YieldsFirst, item_count};
+ghost use Rattle.pattern_token.specs.Items.{is_place, bare_of, token_at, quoted_after, is_number, items, items_left};
 
 use decimal::cut;
 
@@ -94,4 +95,43 @@ pub fn is_number(t: Item) -> bool
     ensures { result ≡ is_number t }
 {
     matches!(t, Item::Place(_))
+}
+
+// The items of a pattern, one after the other: the bytes still to read, and whether they stand in
+// quotes, and directly after a bare number-part byte.
+#[derive(Clone, Copy)]
+pub struct Tokens<'a> {
+    pub rest: &'a [u8],
+    pub quoted: bool,
+    pub number: bool,
+}
+
+// The items of s.
+pub fn items_of(s: &[u8]) -> Tokens<'_>
+    ensures { items_left result ≡ items s.now }
+{
+    Tokens {
+        rest: s,
+        quoted: false,
+        number: false,
+    }
+}
+
+impl<'a> Iterator for Tokens<'a> {
+    type Item = Item;
+
+    ghost next_gives = { YieldsFirst items_left };
+
+    ghost remaining = { item_count items_left };
+
+    fn next(&mut self) -> Option<Item> {
+        if self.rest.is_empty() {
+            return None;
+        }
+        let Token { item, width } = token_in(self.rest, 0, self.quoted, self.number);
+        self.rest = cut::after(self.rest, width);
+        self.quoted = quoted_after(self.quoted, item);
+        self.number = is_number(item);
+        Some(item)
+    }
 }
