@@ -2,26 +2,26 @@
 ghost use Rattle.std.specs.Prelude.{◌≡◌, Bool, List, ℕ, max, ◌≤◌, ◌<◌, get_or};
 ghost use Rattle.check_laws.specs.Floors.{Floored, Under, long_in};
 ghost use Rattle.pack_rules.specs.Room.{clause_room, relation_room};
-ghost use Rattle.pack_rules.specs.Stretch.{table, clause_at};
+ghost use Rattle.pack_rules.specs.Stretch.{table_of, clause_at};
 
-use crate::{PerClause, ends};
+use crate::{ClauseFloors, PerClause};
 use check_laws::{Floors, Span};
 use decimal::num::greater;
-use pack_rules::{ClauseEnds, Columns, RangeEnds, from_at};
+use pack_rules::{Pack, RELATION_ROOM, from_at, start_at, stop_at};
 
 // A clause with more ranges is long: a shorter one is searched as quickly as its floors are found.
 const LONG: usize = 24;
 
 // Whether the relations from place `from` to before `to` have many ranges.
-fn is_long(columns: &Columns, from: usize, to: usize) -> bool
+fn is_long(pack: &Pack, from: usize, to: usize) -> bool
     requires { to ≤ relation_room }
-    ensures { result ≡ long_in columns.now 24 from to }
+    ensures { result ≡ long_in pack.now.columns 24 from to }
 {
     if to <= from {
         return false;
     }
-    let start = from_at(columns, from);
-    let end = from_at(columns, to);
+    let start = from_at(pack, from);
+    let end = from_at(pack, to);
     if end < start {
         return false;
     }
@@ -29,19 +29,13 @@ fn is_long(columns: &Columns, from: usize, to: usize) -> bool
 }
 
 // The floors of the clause j: zeros where it is not long.
-fn clause_floors<'a>(
-    columns: &'a Columns,
-    low: &'a RangeEnds,
-    high: &'a RangeEnds,
-    relations: &'a ClauseEnds,
-    j: usize,
-) -> Floors
+fn clause_floors(pack: &Pack, j: usize) -> Floors
     requires { j < clause_room }
-    ensures { Under (clause_at (table columns.now low.now high.now) relations.now j) result }
+    ensures { Under (clause_at (table_of pack.now) pack.now.relations j) result }
 {
-    let from = ends::relations_start(relations, j);
-    let to = ends::relations_stop(relations, j);
-    if !is_long(columns, from, to) {
+    let from = start_at(&pack.relations, j);
+    let to = stop_at(&pack.relations, j, RELATION_ROOM);
+    if !is_long(pack, from, to) {
         return Floors {
             whole: 0,
             part: 0,
@@ -54,54 +48,32 @@ fn clause_floors<'a>(
         start: 0,
         stop: 0,
     };
-    check_search::floors_of(columns, low, high, s)
-}
-
-fn higher(floors: &PerClause, k: usize, l: usize) -> u64
-    requires { (k < clause_room) × (l < clause_room) }
-    ensures { result ≡ max (get_or floors.now k 0) (get_or floors.now l 0) }
-{
-    greater(floors[k], floors[l])
+    check_search::floors_of(pack, s)
 }
 
 // The floors of the clauses k and l joined: what one of them does not allow, both do not.
-pub fn pair_floors<'a>(
-    whole: &'a PerClause,
-    part: &'a PerClause,
-    tail: &'a PerClause,
-    k: usize,
-    l: usize,
-) -> Floors
+pub fn pair_floors(floors: &ClauseFloors, k: usize, l: usize) -> Floors
     requires { (k < clause_room) × (l < clause_room) }
-    ensures { (result.whole ≡ max (get_or whole.now k 0) (get_or whole.now l 0)) × (result.part ≡ max (get_or part.now k 0) (get_or part.now l 0)) × (result.tail ≡ max (get_or tail.now k 0) (get_or tail.now l 0)) }
+    ensures { (result.whole ≡ max (get_or floors.now.whole k 0) (get_or floors.now.whole l 0)) × (result.part ≡ max (get_or floors.now.part k 0) (get_or floors.now.part l 0)) × (result.tail ≡ max (get_or floors.now.tail k 0) (get_or floors.now.tail l 0)) }
 {
     Floors {
-        whole: higher(whole, k, l),
-        part: higher(part, k, l),
-        tail: higher(tail, k, l),
+        whole: floors.whole[k].max(floors.whole[l]),
+        part: floors.part[k].max(floors.part[l]),
+        tail: floors.tail[k].max(floors.tail[l]),
     }
 }
 
 // Fills in the floors of the first `to` clauses.
-pub fn fill<'a>(
-    columns: &'a Columns,
-    low: &'a RangeEnds,
-    high: &'a RangeEnds,
-    relations: &'a ClauseEnds,
-    whole: &mut PerClause,
-    part: &mut PerClause,
-    tail: &mut PerClause,
-    to: usize,
-)
-    requires { (to ≤ clause_room) × Floored (table columns.now low.now high.now) relations.now whole.old part.old tail.old }
-    ensures { Floored (table columns.now low.now high.now) relations.now whole.new part.new tail.new }
+pub fn fill(pack: &Pack, floors: &mut ClauseFloors, to: usize)
+    requires { (to ≤ clause_room) × Floored (table_of pack.now) pack.now.relations floors.old.whole floors.old.part floors.old.tail }
+    ensures { Floored (table_of pack.now) pack.now.relations floors.new.whole floors.new.part floors.new.tail }
 {
     let mut j: usize = 0;
     while j < to {
-        let l = clause_floors(columns, low, high, relations, j);
-        whole[j] = l.whole;
-        part[j] = l.part;
-        tail[j] = l.tail;
+        let l = clause_floors(pack, j);
+        floors.whole[j] = l.whole;
+        floors.part[j] = l.part;
+        floors.tail[j] = l.tail;
         j += 1;
     }
 }

@@ -14,3 +14,10 @@ use pack_rules::CLAUSE_ROOM;
 
 // A number for each clause of a pack.
 pub type PerClause = [u64; CLAUSE_ROOM];
+
+// The floors of a pack's clauses, as crate check_laws has them of one.
+pub struct ClauseFloors {
+    pub whole: PerClause,
+    pub part: PerClause,
+    pub tail: PerClause,
+}

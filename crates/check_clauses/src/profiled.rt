@@ -2,25 +2,19 @@
 ghost use Rattle.std.specs.Prelude.{◌≡◌, ℕ, ◌≤◌, ◌<◌, get_or};
 ghost use Rattle.check_laws.specs.Profile.{profile_of, Profiled};
 ghost use Rattle.pack_rules.specs.Room.{clause_room};
-ghost use Rattle.pack_rules.specs.Stretch.{table, clause_at};
+ghost use Rattle.pack_rules.specs.Stretch.{table_of, clause_at};
 
-use crate::{PerClause, ends};
-use pack_rules::{ClauseEnds, Columns, RangeEnds};
+use crate::PerClause;
+use pack_rules::{Pack, RELATION_ROOM, start_at, stop_at};
 
 // The profile of the clause j.
-fn profile_of<'a>(
-    columns: &'a Columns,
-    low: &'a RangeEnds,
-    high: &'a RangeEnds,
-    relations: &'a ClauseEnds,
-    j: usize,
-) -> u64
+fn profile_of(pack: &Pack, j: usize) -> u64
     requires { j < clause_room }
-    ensures { result ≡ profile_of (clause_at (table columns.now low.now high.now) relations.now j) }
+    ensures { result ≡ profile_of (clause_at (table_of pack.now) pack.now.relations j) }
 {
-    let from = ends::relations_start(relations, j);
-    let to = ends::relations_stop(relations, j);
-    check_profile::clause_profile(columns, low, high, from, to)
+    let from = start_at(&pack.relations, j);
+    let to = stop_at(&pack.relations, j, RELATION_ROOM);
+    check_profile::clause_profile(pack, from, to)
 }
 
 // Lent as a slice the array has the length that it is declared with.
@@ -36,20 +30,13 @@ fn put(profiles: &mut PerClause, j: usize, p: u64)
 }
 
 // Fills in the profiles of the first `to` clauses.
-pub fn fill<'a>(
-    columns: &'a Columns,
-    low: &'a RangeEnds,
-    high: &'a RangeEnds,
-    relations: &'a ClauseEnds,
-    profiles: &mut PerClause,
-    to: usize,
-)
+pub fn fill(pack: &Pack, profiles: &mut PerClause, to: usize)
     requires { to ≤ clause_room }
-    ensures { Profiled (table columns.now low.now high.now) relations.now profiles.new to }
+    ensures { Profiled (table_of pack.now) pack.now.relations profiles.new to }
 {
     let mut j: usize = 0;
     while j < to {
-        let p = profile_of(columns, low, high, relations, j);
+        let p = profile_of(pack, j);
         put(profiles, j, p);
         j += 1;
     }

@@ -7,7 +7,7 @@ ghost use Rattle.check_laws.specs.Profile.{values_of, round, reaches, spares, en
 
 use crate::values::with_bit;
 use decimal::num::{less_by, wide};
-use pack_rules::{RangeEnds, Single};
+use pack_rules::{Pack, Single};
 
 // Every digit.
 const EACH: u64 = 1_023;
@@ -41,14 +41,14 @@ fn reached(a: u32, b: u32) -> u64
 }
 
 // The digits in one of which ends a number in a range from place `from` to before `to`.
-fn any_reached<'a>(low: &'a RangeEnds, high: &'a RangeEnds, from: usize, to: usize) -> u64
+fn any_reached(pack: &Pack, from: usize, to: usize) -> u64
     requires { to ≤ range_room }
-    ensures { (result ≡ values_of (λ (d : ℕ). any (reaches d) (ranges_in low.now high.now from to)) 10) × (result < 1_024) }
+    ensures { (result ≡ values_of (λ (d : ℕ). any (reaches d) (ranges_in pack.now.low pack.now.high from to)) 10) × (result < 1_024) }
 {
     let mut mask: u64 = 0;
     let mut k = from;
     while k < to {
-        mask = mask | reached(low[k], high[k]);
+        mask = mask | reached(pack.low[k], pack.high[k]);
         k += 1;
     }
     mask
@@ -91,33 +91,33 @@ fn spared(a: u32, b: u32, m: u32) -> u64
 }
 
 // The digits that each range from place `from` to before `to` spares.
-fn all_spared<'a>(low: &'a RangeEnds, high: &'a RangeEnds, from: usize, to: usize, m: u32) -> u64
+fn all_spared(pack: &Pack, from: usize, to: usize, m: u32) -> u64
     requires { to ≤ range_room }
-    ensures { (result ≡ values_of (λ (d : ℕ). all (spares m d) (ranges_in low.now high.now from to)) 10) × (result < 1_024) }
+    ensures { (result ≡ values_of (λ (d : ℕ). all (spares m d) (ranges_in pack.now.low pack.now.high from to)) 10) × (result < 1_024) }
 {
     let mut mask = EACH;
     let mut k = from;
     while k < to {
-        mask = mask & spared(low[k], high[k], m);
+        mask = mask & spared(pack.low[k], pack.high[k], m);
         k += 1;
     }
     mask
 }
 
 // The last digits of the numbers that the relation may hold of.
-pub fn digits_of<'a>(low: &'a RangeEnds, high: &'a RangeEnds, s: Single) -> u64
+pub fn digits_of(pack: &Pack, s: Single) -> u64
     requires { s.to ≤ range_room }
-    ensures { (result ≡ values_of (λ (d : ℕ). ends_in d (relation_by low.now high.now s)) 10) × (result < 1_024) }
+    ensures { (result ≡ values_of (λ (d : ℕ). ends_in d (relation_by pack.now.low pack.now.high s)) 10) × (result < 1_024) }
 {
     let m = s.modulus;
     if 0 < m % 10 {
         return EACH;
     }
     if !s.negated {
-        return any_reached(low, high, s.from, s.to);
+        return any_reached(pack, s.from, s.to);
     }
     if m == 0 {
         return EACH;
     }
-    all_spared(low, high, s.from, s.to, m)
+    all_spared(pack, s.from, s.to, m)
 }

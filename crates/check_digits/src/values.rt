@@ -11,7 +11,7 @@ ghost use Rattle.check_laws.specs.Profile.{values_of};
 use check_laws::{Bounds, limits};
 use check_relation::relation::holds_of;
 use decimal::Places;
-use pack_rules::{RangeEnds, Single};
+use pack_rules::{Pack, Single};
 
 const EXPONENTS: u64 = limits::MAX_EXPONENT + 1;
 
@@ -31,15 +31,15 @@ pub fn with_bit(mask: u64, place: u64, on: bool) -> u64
 }
 
 // The values below n at which the relation holds.
-fn values_of<'a>(low: &'a RangeEnds, high: &'a RangeEnds, s: Single, n: u64) -> u64
+fn values_of(pack: &Pack, s: Single, n: u64) -> u64
     requires { (s.to ≤ range_room) × (n ≤ 15) }
-    ensures { result ≡ values_of (test (relation_by low.now high.now s)) n }
+    ensures { result ≡ values_of (test (relation_by pack.now.low pack.now.high s)) n }
 {
     let mut mask: u64 = 0;
     let mut place: u64 = 1;
     let mut x: u64 = 0;
     while x < n {
-        let on = holds_of(low, high, s, x);
+        let on = holds_of(pack, s, x);
         mask = with_bit(mask, place, on);
         place *= 2;
         x += 1;
@@ -48,26 +48,26 @@ fn values_of<'a>(low: &'a RangeEnds, high: &'a RangeEnds, s: Single, n: u64) -> 
 }
 
 // The e, and the v or w, at which it holds.
-pub fn exponents_of<'a>(low: &'a RangeEnds, high: &'a RangeEnds, s: Single) -> u64
+pub fn exponents_of(pack: &Pack, s: Single) -> u64
     requires { s.to ≤ range_room }
-    ensures { (result ≡ values_of (test (relation_by low.now high.now s)) (suc max_exponent)) × (result < 32_768) }
+    ensures { (result ≡ values_of (test (relation_by pack.now.low pack.now.high s)) (suc max_exponent)) × (result < 32_768) }
 {
-    values_of(low, high, s, EXPONENTS)
+    values_of(pack, s, EXPONENTS)
 }
 
-pub fn places_of<'a>(low: &'a RangeEnds, high: &'a RangeEnds, s: Single) -> u64
+pub fn places_of(pack: &Pack, s: Single) -> u64
     requires { s.to ≤ range_room }
-    ensures { (result ≡ values_of (test (relation_by low.now high.now s)) (suc max_places)) × (result < 1_024) }
+    ensures { (result ≡ values_of (test (relation_by pack.now.low pack.now.high s)) (suc max_places)) × (result < 1_024) }
 {
-    values_of(low, high, s, PLACES)
+    values_of(pack, s, PLACES)
 }
 
 // Whether it holds at 0, as a bit.
-pub fn zero_of<'a>(low: &'a RangeEnds, high: &'a RangeEnds, s: Single) -> u64
+pub fn zero_of(pack: &Pack, s: Single) -> u64
     requires { s.to ≤ range_room }
-    ensures { (result ≡ bit (test (relation_by low.now high.now s) 0)) × (result ≤ 1) }
+    ensures { (result ≡ bit (test (relation_by pack.now.low pack.now.high s) 0)) × (result ≤ 1) }
 {
-    if holds_of(low, high, s, 0) { 1 } else { 0 }
+    if holds_of(pack, s, 0) { 1 } else { 0 }
 }
 
 // Whether v is within the bounds.

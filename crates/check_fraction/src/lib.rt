@@ -13,25 +13,18 @@ ghost use Rattle.check_laws.specs.Floors.{NoneBelow};
 ghost use Rattle.check_laws.specs.Profile.{profile_of, Settled};
 ghost use Rattle.check_laws.specs.Read.{joined_in};
 ghost use Rattle.pack_rules.specs.Room.{relation_room};
-ghost use Rattle.pack_rules.specs.Stretch.{table};
+ghost use Rattle.pack_rules.specs.Stretch.{table_of};
 
 use check_laws::{Bounds, Query, Span, limits};
 use check_least::least_from;
 use check_places::places;
 use decimal::num::{lesser, power};
-use pack_rules::{Columns, RangeEnds};
+use pack_rules::Pack;
 
 // The least t before k zeros, by a search; there is none below the least by what is asked of t alone.
-fn tail_of<'a>(
-    columns: &'a Columns,
-    low: &'a RangeEnds,
-    high: &'a RangeEnds,
-    s: Span,
-    k: u64,
-    least: u64,
-) -> u64
-    requires { (k < max_places) × (s.to ≤ relation_room) × (s.stop ≤ relation_room) × (least ≡ alone_of (joined_in (table columns.now low.now high.now) s)) }
-    ensures { result ≡ tail_of k (joined_in (table columns.now low.now high.now) s) }
+fn tail_of(pack: &Pack, s: Span, k: u64, least: u64) -> u64
+    requires { (k < max_places) × (s.to ≤ relation_room) × (s.stop ≤ relation_room) × (least ≡ alone_of (joined_in (table_of pack.now) s)) }
+    ensures { result ≡ tail_of k (joined_in (table_of pack.now) s) }
 {
     let ten = power(k);
     let end = power(limits::MAX_PLACES - k);
@@ -42,19 +35,13 @@ fn tail_of<'a>(
         t: 1,
         odd: true,
     };
-    least_from(columns, low, high, s, q, 0, least, end)
+    least_from(pack, s, q, 0, least, end)
 }
 
 // The least t by what is asked of t alone; there is none below the floor.
-pub fn alone_of<'a>(
-    columns: &'a Columns,
-    low: &'a RangeEnds,
-    high: &'a RangeEnds,
-    s: Span,
-    floor: u64,
-) -> u64
-    requires { (s.to ≤ relation_room) × (s.stop ≤ relation_room) × NoneBelow alone (joined_in (table columns.now low.now high.now) s) floor }
-    ensures { result ≡ alone_of (joined_in (table columns.now low.now high.now) s) }
+pub fn alone_of(pack: &Pack, s: Span, floor: u64) -> u64
+    requires { (s.to ≤ relation_room) × (s.stop ≤ relation_room) × NoneBelow alone (joined_in (table_of pack.now) s) floor }
+    ensures { result ≡ alone_of (joined_in (table_of pack.now) s) }
 {
     let q = Query {
         n: 0,
@@ -63,50 +50,31 @@ pub fn alone_of<'a>(
         t: 1,
         odd: true,
     };
-    least_from(columns, low, high, s, q, 0, floor, limits::FRACTION_LIMIT)
+    least_from(pack, s, q, 0, floor, limits::FRACTION_LIMIT)
 }
 
 // The least t before k zeros, where t is the least by what is asked of t alone: where no relation asks f,
 // there is no more to ask.
-fn tail_at<'a>(
-    columns: &'a Columns,
-    low: &'a RangeEnds,
-    high: &'a RangeEnds,
-    s: Span,
-    k: u64,
-    t: u64,
-    spared: bool,
-) -> u64
-    requires { (k < max_places) × (s.to ≤ relation_room) × (s.stop ≤ relation_room) × (t ≡ alone_of (joined_in (table columns.now low.now high.now) s)) × (spared ≡ not (asks_of 102 (joined_in (table columns.now low.now high.now) s))) }
-    ensures { result ≡ tail_of k (joined_in (table columns.now low.now high.now) s) }
+fn tail_at(pack: &Pack, s: Span, k: u64, t: u64, spared: bool) -> u64
+    requires { (k < max_places) × (s.to ≤ relation_room) × (s.stop ≤ relation_room) × (t ≡ alone_of (joined_in (table_of pack.now) s)) × (spared ≡ not (asks_of 102 (joined_in (table_of pack.now) s))) }
+    ensures { result ≡ tail_of k (joined_in (table_of pack.now) s) }
 {
     if spared {
         return lesser(t, power(limits::MAX_PLACES - k));
     }
-    tail_of(columns, low, high, s, k, t)
+    tail_of(pack, s, k, t)
 }
 
 // The least v and f, where f ends in k zeros and is not 0. There is no search where no v is settled.
-fn tail_code<'a>(
-    columns: &'a Columns,
-    low: &'a RangeEnds,
-    high: &'a RangeEnds,
-    s: Span,
-    b: Bounds,
-    vs: u64,
-    ws: u64,
-    k: u64,
-    t: u64,
-    spared: bool,
-) -> u64
-    requires k_lt_max_places { (k < max_places) × (s.to ≤ relation_room) × (s.stop ≤ relation_room) × (t ≡ alone_of (joined_in (table columns.now low.now high.now) s)) × (spared ≡ not (asks_of 102 (joined_in (table columns.now low.now high.now) s))) }
-    requires settled { Settled (bounded b (joined_in (table columns.now low.now high.now) s)) vs ws }
-    ensures { result ≡ tail_code k (bounded b (joined_in (table columns.now low.now high.now) s)) }
+fn tail_code(pack: &Pack, s: Span, b: Bounds, vs: u64, ws: u64, k: u64, t: u64, spared: bool) -> u64
+    requires k_lt_max_places { (k < max_places) × (s.to ≤ relation_room) × (s.stop ≤ relation_room) × (t ≡ alone_of (joined_in (table_of pack.now) s)) × (spared ≡ not (asks_of 102 (joined_in (table_of pack.now) s))) }
+    requires settled { Settled (bounded b (joined_in (table_of pack.now) s)) vs ws }
+    ensures { result ≡ tail_code k (bounded b (joined_in (table_of pack.now) s)) }
 {
     if limits::MAX_PLACES < places::settled_places(vs, ws, k) {
         return limits::FRACTIONS;
     }
-    let u = tail_at(columns, low, high, s, k, t, spared);
+    let u = tail_at(pack, s, k, t, spared);
     let v = places::tail_places(vs, ws, k, u);
     if limits::MAX_PLACES < v {
         return limits::FRACTIONS;
@@ -115,20 +83,10 @@ fn tail_code<'a>(
 }
 
 // The least over the zeros at the end of f. More zeros need more places than one that is found may have.
-fn least_code<'a>(
-    columns: &'a Columns,
-    low: &'a RangeEnds,
-    high: &'a RangeEnds,
-    s: Span,
-    b: Bounds,
-    vs: u64,
-    ws: u64,
-    t: u64,
-    spared: bool,
-) -> u64
-    requires to_le_relation_room { (s.to ≤ relation_room) × (s.stop ≤ relation_room) × (t ≡ alone_of (joined_in (table columns.now low.now high.now) s)) × (spared ≡ not (asks_of 102 (joined_in (table columns.now low.now high.now) s))) }
-    requires settled { Settled (bounded b (joined_in (table columns.now low.now high.now) s)) vs ws }
-    ensures { result ≡ part_code max_places (bounded b (joined_in (table columns.now low.now high.now) s)) }
+fn least_code(pack: &Pack, s: Span, b: Bounds, vs: u64, ws: u64, t: u64, spared: bool) -> u64
+    requires to_le_relation_room { (s.to ≤ relation_room) × (s.stop ≤ relation_room) × (t ≡ alone_of (joined_in (table_of pack.now) s)) × (spared ≡ not (asks_of 102 (joined_in (table_of pack.now) s))) }
+    requires settled { Settled (bounded b (joined_in (table_of pack.now) s)) vs ws }
+    ensures { result ≡ part_code max_places (bounded b (joined_in (table_of pack.now) s)) }
 {
     let mut best: u64 = limits::FRACTIONS;
     let mut k: u64 = 0;
@@ -136,19 +94,16 @@ fn least_code<'a>(
         if best <= (k + 1) * limits::FRACTION_LIMIT {
             return best;
         }
-        best = lesser(
-            best,
-            tail_code(columns, low, high, s, b, vs, ws, k, t, spared),
-        );
+        best = lesser(best, tail_code(pack, s, b, vs, ws, k, t, spared));
         k += 1;
     }
     best
 }
 
 // The least f other than 0 by what is asked of f alone.
-fn least_f<'a>(columns: &'a Columns, low: &'a RangeEnds, high: &'a RangeEnds, s: Span) -> u64
+fn least_f(pack: &Pack, s: Span) -> u64
     requires { (s.to ≤ relation_room) × (s.stop ≤ relation_room) }
-    ensures { result ≡ least_f (joined_in (table columns.now low.now high.now) s) }
+    ensures { result ≡ least_f (joined_in (table_of pack.now) s) }
 {
     let q = Query {
         n: 0,
@@ -157,7 +112,7 @@ fn least_f<'a>(columns: &'a Columns, low: &'a RangeEnds, high: &'a RangeEnds, s:
         t: 0,
         odd: false,
     };
-    least_from(columns, low, high, s, q, 1, 0, limits::FRACTION_LIMIT)
+    least_from(pack, s, q, 1, 0, limits::FRACTION_LIMIT)
 }
 
 // How many zeros f ends in, or 8 where it ends in more.
@@ -185,55 +140,38 @@ fn code_of(v: u64, f: u64) -> u64
 // The least over the zeros at the end, where f is asked. No f comes before the least by what is asked of
 // f alone, nor its v before the least with room for that. So they are a bound, and often reached: then
 // one search for t is enough.
-fn asked_code<'a>(
-    columns: &'a Columns,
-    low: &'a RangeEnds,
-    high: &'a RangeEnds,
-    s: Span,
-    b: Bounds,
-    vs: u64,
-    ws: u64,
-    t: u64,
-) -> u64
-    requires to_le_relation_room { (s.to ≤ relation_room) × (s.stop ≤ relation_room) × (t ≡ alone_of (joined_in (table columns.now low.now high.now) s)) × (false ≡ not (asks_of 102 (joined_in (table columns.now low.now high.now) s))) }
-    requires settled { Settled (bounded b (joined_in (table columns.now low.now high.now) s)) vs ws }
-    ensures { result ≡ part_code max_places (bounded b (joined_in (table columns.now low.now high.now) s)) }
+fn asked_code(pack: &Pack, s: Span, b: Bounds, vs: u64, ws: u64, t: u64) -> u64
+    requires to_le_relation_room { (s.to ≤ relation_room) × (s.stop ≤ relation_room) × (t ≡ alone_of (joined_in (table_of pack.now) s)) × (false ≡ not (asks_of 102 (joined_in (table_of pack.now) s))) }
+    requires settled { Settled (bounded b (joined_in (table_of pack.now) s)) vs ws }
+    ensures { result ≡ part_code max_places (bounded b (joined_in (table_of pack.now) s)) }
 {
-    let f = least_f(columns, low, high, s);
+    let f = least_f(pack, s);
     let v = places::least_room(vs, f);
     if limits::MAX_PLACES < v {
         return limits::FRACTIONS;
     }
     let k = zeros_of(f);
-    let x = tail_code(columns, low, high, s, b, vs, ws, k, t, false);
+    let x = tail_code(pack, s, b, vs, ws, k, t, false);
     if x <= code_of(v, f) {
         return x;
     }
-    least_code(columns, low, high, s, b, vs, ws, t, false)
+    least_code(pack, s, b, vs, ws, t, false)
 }
 
 // The least v and f, where f is not 0: none where no t meets what is asked of t alone.
-pub fn part_code<'a>(
-    columns: &'a Columns,
-    low: &'a RangeEnds,
-    high: &'a RangeEnds,
-    s: Span,
-    b: Bounds,
-    p: u64,
-    floor: u64,
-) -> u64
-    requires to_le_relation_room { (s.to ≤ relation_room) × (s.stop ≤ relation_room) × NoneBelow alone (joined_in (table columns.now low.now high.now) s) floor }
-    requires p_value { p ≡ profile_of (bounded b (joined_in (table columns.now low.now high.now) s)) }
-    ensures { result ≡ part_code max_places (bounded b (joined_in (table columns.now low.now high.now) s)) }
+pub fn part_code(pack: &Pack, s: Span, b: Bounds, p: u64, floor: u64) -> u64
+    requires to_le_relation_room { (s.to ≤ relation_room) × (s.stop ≤ relation_room) × NoneBelow alone (joined_in (table_of pack.now) s) floor }
+    requires p_value { p ≡ profile_of (bounded b (joined_in (table_of pack.now) s)) }
+    ensures { result ≡ part_code max_places (bounded b (joined_in (table_of pack.now) s)) }
 {
-    let t = alone_of(columns, low, high, s, floor);
+    let t = alone_of(pack, s, floor);
     if limits::FRACTION_LIMIT <= t {
         return limits::FRACTIONS;
     }
     let vs = check_profile::v_of(p);
     let ws = check_profile::w_of(p);
     if check_profile::spares_f(p) {
-        return least_code(columns, low, high, s, b, vs, ws, t, true);
+        return least_code(pack, s, b, vs, ws, t, true);
     }
-    asked_code(columns, low, high, s, b, vs, ws, t)
+    asked_code(pack, s, b, vs, ws, t)
 }

@@ -4,7 +4,8 @@ use mathlib.Core.List.{List}
 use Prim.Native.Nat.{ℕ, zero, suc, ◌+◌, ◌-◌, min}
 use native.Mathlib.Nat.{sub-zero}
 use Rattle.pack_rules.specs.Syntax.{Relation, Rule}
-use Rattle.pack_rules.specs.Held.{Pack, held_rules}
+use Rattle.pack_rules.specs.declared.Pack.{Pack}
+use Rattle.pack_rules.specs.Held.{held_rules}
 use Rattle.pack_rules.specs.Stretch.{stretch, table_of, rule_at}
 use Rattle.pack_rules.proofs.Stretches.{Sized, held_rules_law}
 use Rattle.check_laws.specs.Check.{named, against, first_pair, check_of}

@@ -8,7 +8,7 @@
 mod search;
 
 ghost use Rattle.std.specs.Prelude.{◌≡◌};
-ghost use Rattle.pack_rules.specs.Stretch.{table};
+ghost use Rattle.pack_rules.specs.Stretch.{table_of};
 ghost use Rattle.check_laws.specs.Floors.{NoneBelow};
 ghost use Rattle.check_laws.specs.Read.{joined_in};
 ghost use Rattle.check_laws.specs.Ready.{ready, least_in};
@@ -16,7 +16,7 @@ ghost use Rattle.check_laws.specs.Ready.{ready, least_in};
 use check_laws::limits::FRACTION_LIMIT;
 use check_laws::{Query, Span};
 use decimal::num::greater;
-use pack_rules::{Columns, RELATION_ROOM, RangeEnds};
+use pack_rules::{Pack, RELATION_ROOM};
 
 // 10^18: no value that is compared is above it
 const CAP: u64 = 1_000_000_000_000_000_000;
@@ -54,41 +54,24 @@ fn is_ready(s: Span, q: Query, lo: u64, hi: u64) -> bool
 
 // The least number from lo on and below hi that passes what the clause asks, or hi; hi too where the
 // search has no room.
-pub fn least_number<'a>(
-    columns: &'a Columns,
-    low: &'a RangeEnds,
-    high: &'a RangeEnds,
-    s: Span,
-    q: Query,
-    lo: u64,
-    hi: u64,
-) -> u64
-    ensures { result ≡ least_in (table columns.now low.now high.now) s q lo hi }
+pub fn least_number(pack: &Pack, s: Span, q: Query, lo: u64, hi: u64) -> u64
+    ensures { result ≡ least_in (table_of pack.now) s q lo hi }
 {
     if is_ready(s, q, lo, hi) {
-        return search::least(columns, low, high, s, q, lo, hi);
+        return search::least(pack, s, q, lo, hi);
     }
     hi
 }
 
 // The least number from lo on and below hi that passes, or hi. Where the floor is not below hi there is
 // no search.
-pub fn least_from<'a>(
-    columns: &'a Columns,
-    low: &'a RangeEnds,
-    high: &'a RangeEnds,
-    s: Span,
-    q: Query,
-    lo: u64,
-    floor: u64,
-    hi: u64,
-) -> u64
-    requires { NoneBelow q (joined_in (table columns.now low.now high.now) s) floor }
-    ensures { result ≡ least_in (table columns.now low.now high.now) s q lo hi }
+pub fn least_from(pack: &Pack, s: Span, q: Query, lo: u64, floor: u64, hi: u64) -> u64
+    requires { NoneBelow q (joined_in (table_of pack.now) s) floor }
+    ensures { result ≡ least_in (table_of pack.now) s q lo hi }
 {
     let from = greater(lo, floor);
     if hi <= from {
         return hi;
     }
-    least_number(columns, low, high, s, q, from, hi)
+    least_number(pack, s, q, from, hi)
 }

@@ -16,6 +16,13 @@ pub type Segments = [u32; ROOM];
 
 pub type LevelPlaces = [usize; 8];
 
+// The segments of all levels: where they start and end, and where those of each level begin.
+pub struct NextTable {
+    pub starts: Segments,
+    pub ends: Segments,
+    pub at: LevelPlaces,
+}
+
 ghost use Rattle.std.specs.Prelude.{Bool, ℕ, ◌+◌, ◌≤◌};
 ghost use Rattle.check_laws.specs.Seek.{Next};
 ghost use Rattle.check_laws.specs.Read.{cap};
@@ -23,15 +30,15 @@ ghost use Rattle.check_next.specs.Table.{Laid, Tabled};
 
 // The least number from x on that passes the levels below j. Level i is asked once, with the next
 // number of those below it.
-pub fn next(starts: &Segments, ends: &Segments, at: &LevelPlaces, j: usize, x: u64) -> u64
-    requires { Laid starts.now ends.now at.now j × (x ≤ cap) }
-    ensures { (result ≤ x + 2_000_000) × ((S : ℕ → ℕ → Bool) → Tabled S starts.now ends.now at.now j → Next (S j) x result) }
+pub fn next(table: &NextTable, j: usize, x: u64) -> u64
+    requires { Laid table.now.starts table.now.ends table.now.at j × (x ≤ cap) }
+    ensures { (result ≤ x + 2_000_000) × ((S : ℕ → ℕ → Bool) → Tabled S table.now.starts table.now.ends table.now.at j → Next (S j) x result) }
 {
     let mut y = x;
     let mut m: u64 = 1;
     let mut i: usize = 0;
     while i < j {
-        y = climb::climb(starts, ends, at[i], at[i + 1], m, x, y);
+        y = climb::climb(table, table.at[i], table.at[i + 1], m, x, y);
         m *= 10;
         i += 1;
     }

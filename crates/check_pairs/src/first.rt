@@ -6,40 +6,32 @@ ghost use Rattle.check_laws.specs.Fast.{fast_clash};
 ghost use Rattle.check_laws.specs.Floors.{Floored};
 ghost use Rattle.check_laws.specs.Profile.{ProfiledRules};
 ghost use Rattle.pack_rules.specs.Room.{rule_room};
-ghost use Rattle.pack_rules.specs.Stretch.{stretch, table};
+ghost use Rattle.pack_rules.specs.Stretch.{stretch, table_of};
 ghost use Rattle.check_laws.specs.Read.{bare_rule};
 ghost use Rattle.check_laws.specs.Spots.{Proper, answered};
 
 use crate::{Clash, joined};
 use answer::{Pair, Witness};
-use check_clauses::PerClause;
+use check_clauses::{ClauseFloors, PerClause};
 use check_laws::{Checked, limits};
 use check_places::order;
-use pack_rules::{ClauseEnds, Columns, RangeEnds, RuleEnds};
+use pack_rules::Pack;
 
 // The first of the rules behind the rule p, below n, that clashes with it; n where none does.
-pub fn later_clash<'a>(
-    columns: &'a Columns,
-    low: &'a RangeEnds,
-    high: &'a RangeEnds,
-    relations: &'a ClauseEnds,
-    clauses: &'a RuleEnds,
-    whole: &'a PerClause,
-    part: &'a PerClause,
-    tail: &'a PerClause,
-    profiles: &'a PerClause,
+pub fn later_clash(
+    pack: &Pack,
+    floors: &ClauseFloors,
+    profiles: &PerClause,
     p: usize,
     n: usize,
 ) -> Clash
-    requires p_lt_n { (p < n) × (n ≤ rule_room) × Floored (table columns.now low.now high.now) relations.now whole.now part.now tail.now }
-    requires profiled_rules { ProfiledRules (table columns.now low.now high.now) relations.now clauses.now n profiles.now }
-    ensures { ((rest : Checked) → against fast_clash (p + 1) (p + 1 + 1) (bare_rule (table columns.now low.now high.now) relations.now clauses.now p) (stretch (bare_rule (table columns.now low.now high.now) relations.now clauses.now) (p + 1) (n - (p + 1))) rest ≡ answered p n result.at result.spot rest) × (result.at < n → result.spot.e ≤ max_exponent) × Proper result.spot }
+    requires p_lt_n { (p < n) × (n ≤ rule_room) × Floored (table_of pack.now) pack.now.relations floors.now.whole floors.now.part floors.now.tail }
+    requires profiled_rules { ProfiledRules (table_of pack.now) pack.now.relations pack.now.clauses n profiles.now }
+    ensures { ((rest : Checked) → against fast_clash (p + 1) (p + 1 + 1) (bare_rule (table_of pack.now) pack.now.relations pack.now.clauses p) (stretch (bare_rule (table_of pack.now) pack.now.relations pack.now.clauses) (p + 1) (n - (p + 1))) rest ≡ answered p n result.at result.spot rest) × (result.at < n → result.spot.e ≤ max_exponent) × Proper result.spot }
 {
     let mut q = p + 1;
     while q < n {
-        let spot = joined::pair_spot(
-            columns, low, high, relations, clauses, whole, part, tail, profiles, p, q,
-        );
+        let spot = joined::pair_spot(pack, floors, profiles, p, q);
         if spot.e < limits::NO_EXPONENT {
             return Clash { at: q, spot: spot };
         }
@@ -62,27 +54,14 @@ pub fn clashes(p: usize, q: usize, s: Witness) -> Checked
 }
 
 // The first pair among the first n rules, with its least number.
-pub fn first_pair<'a>(
-    columns: &'a Columns,
-    low: &'a RangeEnds,
-    high: &'a RangeEnds,
-    relations: &'a ClauseEnds,
-    clauses: &'a RuleEnds,
-    whole: &'a PerClause,
-    part: &'a PerClause,
-    tail: &'a PerClause,
-    profiles: &'a PerClause,
-    n: usize,
-) -> Checked
-    requires n_le_rule_room { (n ≤ rule_room) × Floored (table columns.now low.now high.now) relations.now whole.now part.now tail.now }
-    requires profiled_rules { ProfiledRules (table columns.now low.now high.now) relations.now clauses.now n profiles.now }
-    ensures { result ≡ first_pair fast_clash (0 + 1) (stretch (bare_rule (table columns.now low.now high.now) relations.now clauses.now) 0 (n - 0)) }
+pub fn first_pair(pack: &Pack, floors: &ClauseFloors, profiles: &PerClause, n: usize) -> Checked
+    requires n_le_rule_room { (n ≤ rule_room) × Floored (table_of pack.now) pack.now.relations floors.now.whole floors.now.part floors.now.tail }
+    requires profiled_rules { ProfiledRules (table_of pack.now) pack.now.relations pack.now.clauses n profiles.now }
+    ensures { result ≡ first_pair fast_clash (0 + 1) (stretch (bare_rule (table_of pack.now) pack.now.relations pack.now.clauses) 0 (n - 0)) }
 {
     let mut k: usize = 0;
     while k < n {
-        let c = later_clash(
-            columns, low, high, relations, clauses, whole, part, tail, profiles, k, n,
-        );
+        let c = later_clash(pack, floors, profiles, k, n);
         if c.at < n {
             return clashes(k, c.at, c.spot);
         }

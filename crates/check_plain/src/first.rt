@@ -3,7 +3,7 @@ ghost use Rattle.std.specs.Prelude.{◌≡◌, Bool, List, ℕ, suc, ◌+◌, �
 ghost use Rattle.number.specs.Limits.{max_exponent};
 ghost use Rattle.check_laws.specs.Check.{clash_of, against, first_pair};
 ghost use Rattle.pack_rules.specs.Room.{rule_room};
-ghost use Rattle.pack_rules.specs.Stretch.{stretch, table};
+ghost use Rattle.pack_rules.specs.Stretch.{stretch, table_of};
 ghost use Rattle.check_laws.specs.Read.{bare_rule};
 ghost use Rattle.check_laws.specs.Spots.{Proper, answered};
 
@@ -11,7 +11,7 @@ use crate::search;
 use answer::{Pair, Witness};
 use check_laws::Checked;
 use check_laws::limits::NO_EXPONENT;
-use pack_rules::{ClauseEnds, Columns, RangeEnds, RuleEnds};
+use pack_rules::Pack;
 
 // The first rule behind a rule that clashes with it, and the number; `at` is past the rules where none
 // does.
@@ -22,21 +22,13 @@ pub struct Clash {
 }
 
 // The first of the rules behind the rule p, below n, that clashes with it; n where none does.
-fn later_clash<'a>(
-    columns: &'a Columns,
-    low: &'a RangeEnds,
-    high: &'a RangeEnds,
-    relations: &'a ClauseEnds,
-    clauses: &'a RuleEnds,
-    p: usize,
-    n: usize,
-) -> Clash
+fn later_clash(pack: &Pack, p: usize, n: usize) -> Clash
     requires { (p < n) × (n ≤ rule_room) }
-    ensures { ((rest : Checked) → against clash_of (p + 1) (p + 1 + 1) (bare_rule (table columns.now low.now high.now) relations.now clauses.now p) (stretch (bare_rule (table columns.now low.now high.now) relations.now clauses.now) (p + 1) (n - (p + 1))) rest ≡ answered p n result.at result.spot rest) × (result.at < n → result.spot.e ≤ max_exponent) × Proper result.spot }
+    ensures { ((rest : Checked) → against clash_of (p + 1) (p + 1 + 1) (bare_rule (table_of pack.now) pack.now.relations pack.now.clauses p) (stretch (bare_rule (table_of pack.now) pack.now.relations pack.now.clauses) (p + 1) (n - (p + 1))) rest ≡ answered p n result.at result.spot rest) × (result.at < n → result.spot.e ≤ max_exponent) × Proper result.spot }
 {
     let mut q = p + 1;
     while q < n {
-        let spot = search::try_all(columns, low, high, relations, clauses, p, q);
+        let spot = search::try_all(pack, p, q);
         if spot.e < NO_EXPONENT {
             return Clash { at: q, spot: spot };
         }
@@ -59,20 +51,13 @@ fn clashes(p: usize, q: usize, s: Witness) -> Checked
 }
 
 // The first pair among the first n rules, with its least number.
-pub fn first_pair<'a>(
-    columns: &'a Columns,
-    low: &'a RangeEnds,
-    high: &'a RangeEnds,
-    relations: &'a ClauseEnds,
-    clauses: &'a RuleEnds,
-    n: usize,
-) -> Checked
+pub fn first_pair(pack: &Pack, n: usize) -> Checked
     requires { n ≤ rule_room }
-    ensures { result ≡ first_pair clash_of (0 + 1) (stretch (bare_rule (table columns.now low.now high.now) relations.now clauses.now) 0 (n - 0)) }
+    ensures { result ≡ first_pair clash_of (0 + 1) (stretch (bare_rule (table_of pack.now) pack.now.relations pack.now.clauses) 0 (n - 0)) }
 {
     let mut k: usize = 0;
     while k < n {
-        let c = later_clash(columns, low, high, relations, clauses, k, n);
+        let c = later_clash(pack, k, n);
         if c.at < n {
             return clashes(k, c.at, c.spot);
         }

@@ -10,42 +10,16 @@ mod operands;
 mod search;
 
 ghost use Rattle.std.specs.Prelude.{◌≡◌, min};
-ghost use Rattle.pack_rules.specs.Held.{held_rules, lent};
+ghost use Rattle.pack_rules.specs.Held.{held_rules};
 ghost use Rattle.check_laws.specs.Check.{check_of};
 
 use check_laws::Checked;
-use pack_rules::{ClauseEnds, Columns, Keywords, RULE_ROOM, RangeEnds, RuleEnds};
-
-// There is room for so many rules.
-fn rule_count(count: usize) -> usize
-    ensures { result ≡ min count 6 }
-{
-    if count < RULE_ROOM { count } else { RULE_ROOM }
-}
-
-// Lent as slices the arrays have the lengths that they are declared with; there is nothing else to do.
-fn sized<'a>(
-    columns: &'a [u32],
-    low: &'a [u32],
-    high: &'a [u32],
-    relations: &'a [usize],
-    keyword: &'a [u8],
-    clauses: &'a [usize],
-) {}
+use pack_rules::{Pack, RULE_ROOM};
 
 // The check of the first `count` rules in a parsed pack's arrays.
-pub fn check<'a>(
-    columns: &'a Columns,
-    low: &'a RangeEnds,
-    high: &'a RangeEnds,
-    relations: &'a ClauseEnds,
-    keyword: &'a Keywords,
-    clauses: &'a RuleEnds,
-    count: usize,
-) -> Checked
-    ensures { result ≡ check_of (held_rules (lent low.now high.now columns.now relations.now keyword.now clauses.now count)) }
+pub fn check(pack: &Pack) -> Checked
+    ensures { result ≡ check_of (held_rules pack.now) }
 {
-    sized(columns, low, high, relations, keyword, clauses);
-    let n = rule_count(count);
-    first::first_pair(columns, low, high, relations, clauses, n)
+    let n = pack.count.min(RULE_ROOM);
+    first::first_pair(pack, n)
 }

@@ -1,7 +1,7 @@
 // The least number that meets two rules: every admitted number is tried, by e, then v, then i, then f.
 ghost use Rattle.std.specs.Prelude.{◌≡◌, ◌+◌, ◌^◌, ◌≤◌, ◌<◌};
 ghost use Rattle.number.specs.Limits.{max_exponent, max_digits, max_places};
-ghost use Rattle.pack_rules.specs.Stretch.{table};
+ghost use Rattle.pack_rules.specs.Stretch.{table_of};
 ghost use Rattle.check_laws.specs.Check.{lowest, clash_of};
 ghost use Rattle.check_laws.specs.Read.{bare_rule};
 ghost use Rattle.check_laws.specs.Spots.{spot_rank, Proper};
@@ -12,7 +12,7 @@ use answer::Witness;
 use check_laws::limits::{INTEGER_LIMIT, NO_EXPONENT};
 use decimal::{DigitValue, Places};
 use number::Number;
-use pack_rules::{ClauseEnds, Columns, RangeEnds, RuleEnds};
+use pack_rules::Pack;
 
 // No number: its e is past the largest.
 pub fn nowhere() -> Witness
@@ -27,45 +27,25 @@ pub fn nowhere() -> Witness
 }
 
 // Whether the number meets both rules.
-fn meets_both<'a>(
-    columns: &'a Columns,
-    low: &'a RangeEnds,
-    high: &'a RangeEnds,
-    relations: &'a ClauseEnds,
-    clauses: &'a RuleEnds,
-    first: usize,
-    second: usize,
-    x: Number,
-) -> bool
-    ensures { result ≡ meets_both (table columns.now low.now high.now) relations.now clauses.now first second x }
+fn meets_both(pack: &Pack, first: usize, second: usize, x: Number) -> bool
+    ensures { result ≡ meets_both (table_of pack.now) pack.now.relations pack.now.clauses first second x }
 {
-    if !select::meets_held(columns, low, high, relations, clauses, first, x) {
+    if !select::meets_held(pack, first, x) {
         return false;
     }
-    select::meets_held(columns, low, high, relations, clauses, second, x)
+    select::meets_held(pack, second, x)
 }
 
 // Every f below 10^v.
-fn try_fractions<'a>(
-    columns: &'a Columns,
-    low: &'a RangeEnds,
-    high: &'a RangeEnds,
-    relations: &'a ClauseEnds,
-    clauses: &'a RuleEnds,
-    p: usize,
-    q: usize,
-    e: u8,
-    v: u8,
-    i: u64,
-) -> Witness
+fn try_fractions(pack: &Pack, p: usize, q: usize, e: u8, v: u8, i: u64) -> Witness
     requires { (e ≤ max_exponent) × (v ≤ max_places) × (lowest e ≤ i) × (i < 10 ^ max_digits) }
-    ensures { Tried (meets_both (table columns.now low.now high.now) relations.now clauses.now p q) (rank_at e v i 0) (rank_at e v (i + 1) 0) result }
+    ensures { Tried (meets_both (table_of pack.now) pack.now.relations pack.now.clauses p q) (rank_at e v i 0) (rank_at e v (i + 1) 0) result }
 {
     let limit = operands::power(v);
     let mut f: u64 = 0;
     while f < limit {
         let x = operands::number_at(e, v, i, f);
-        if meets_both(columns, low, high, relations, clauses, p, q, x) {
+        if meets_both(pack, p, q, x) {
             return Witness {
                 e: e,
                 v: Places(v),
@@ -79,23 +59,13 @@ fn try_fractions<'a>(
 }
 
 // Every i from the least that e allows to below 10^15.
-fn try_integers<'a>(
-    columns: &'a Columns,
-    low: &'a RangeEnds,
-    high: &'a RangeEnds,
-    relations: &'a ClauseEnds,
-    clauses: &'a RuleEnds,
-    p: usize,
-    q: usize,
-    e: u8,
-    v: u8,
-) -> Witness
+fn try_integers(pack: &Pack, p: usize, q: usize, e: u8, v: u8) -> Witness
     requires { (e ≤ max_exponent) × (v ≤ max_places) }
-    ensures { Tried (meets_both (table columns.now low.now high.now) relations.now clauses.now p q) (rank_at e v 0 0) (rank_at e (v + 1) 0 0) result }
+    ensures { Tried (meets_both (table_of pack.now) pack.now.relations pack.now.clauses p q) (rank_at e v 0 0) (rank_at e (v + 1) 0 0) result }
 {
     let mut i = operands::lowest_of(e);
     while i < INTEGER_LIMIT {
-        let s = try_fractions(columns, low, high, relations, clauses, p, q, e, v, i);
+        let s = try_fractions(pack, p, q, e, v, i);
         if s.e < NO_EXPONENT {
             return s;
         }
@@ -105,22 +75,13 @@ fn try_integers<'a>(
 }
 
 // Every v.
-fn try_places<'a>(
-    columns: &'a Columns,
-    low: &'a RangeEnds,
-    high: &'a RangeEnds,
-    relations: &'a ClauseEnds,
-    clauses: &'a RuleEnds,
-    p: usize,
-    q: usize,
-    e: u8,
-) -> Witness
+fn try_places(pack: &Pack, p: usize, q: usize, e: u8) -> Witness
     requires { e ≤ max_exponent }
-    ensures { Tried (meets_both (table columns.now low.now high.now) relations.now clauses.now p q) (rank_at e 0 0 0) (rank_at (e + 1) 0 0 0) result }
+    ensures { Tried (meets_both (table_of pack.now) pack.now.relations pack.now.clauses p q) (rank_at e 0 0 0) (rank_at (e + 1) 0 0 0) result }
 {
     let mut v: u8 = 0;
     while v <= limits::MAX_PLACES {
-        let s = try_integers(columns, low, high, relations, clauses, p, q, e, v);
+        let s = try_integers(pack, p, q, e, v);
         if s.e < NO_EXPONENT {
             return s;
         }
@@ -130,20 +91,12 @@ fn try_places<'a>(
 }
 
 // Every e: the least number that meets the rules p and q.
-pub fn try_all<'a>(
-    columns: &'a Columns,
-    low: &'a RangeEnds,
-    high: &'a RangeEnds,
-    relations: &'a ClauseEnds,
-    clauses: &'a RuleEnds,
-    p: usize,
-    q: usize,
-) -> Witness
-    ensures { (spot_rank result ≡ clash_of (bare_rule (table columns.now low.now high.now) relations.now clauses.now p) (bare_rule (table columns.now low.now high.now) relations.now clauses.now q)) × Proper result }
+pub fn try_all(pack: &Pack, p: usize, q: usize) -> Witness
+    ensures { (spot_rank result ≡ clash_of (bare_rule (table_of pack.now) pack.now.relations pack.now.clauses p) (bare_rule (table_of pack.now) pack.now.relations pack.now.clauses q)) × Proper result }
 {
     let mut e: u8 = 0;
     while e <= limits::MAX_EXPONENT {
-        let s = try_places(columns, low, high, relations, clauses, p, q, e);
+        let s = try_places(pack, p, q, e);
         if s.e < NO_EXPONENT {
             return s;
         }

@@ -12,14 +12,14 @@ ghost use Rattle.std.specs.Prelude.{◌≡◌, not, List, [], ◌∷◌, ◌/◌
 ghost use Rattle.decimal.specs.Lists.{all};
 ghost use Rattle.pack_rules.specs.Room.{range_room, relation_room};
 ghost use Rattle.pack_rules.specs.Syntax.{Relation};
-ghost use Rattle.pack_rules.specs.Stretch.{relation_by, table, relations_in};
+ghost use Rattle.pack_rules.specs.Stretch.{relation_by, table_of, relations_in};
 ghost use Rattle.check_laws.specs.Bounded.{bounded};
 ghost use Rattle.check_laws.specs.Fast.{asks_of, exponent_of, passes, query_t};
 ghost use Rattle.check_laws.specs.Profile.{packed, profile_of, whole_digits, part_digits};
 
 use check_digits::{digits, values};
 use check_laws::{Bounds, limits};
-use pack_rules::{Columns, RangeEnds, Single, single_at};
+use pack_rules::{Pack, Single, single_at};
 
 // Every e, and every v or w.
 const EACH_E: u64 = 32_767;
@@ -77,57 +77,51 @@ fn any_digit(e: u64, v: u64, w: u64, flags: u64) -> u64
 }
 
 // The profile of a relation, by its letter.
-fn relation_profile<'a>(low: &'a RangeEnds, high: &'a RangeEnds, s: Single) -> u64
+fn relation_profile(pack: &Pack, s: Single) -> u64
     requires { s.to ≤ range_room }
-    ensures { result ≡ profile_of (relation_by low.now high.now s ∷ []) }
+    ensures { result ≡ profile_of (relation_by pack.now.low pack.now.high s ∷ []) }
 {
     let o = s.operand;
     if o == 110 {
-        let d = digits::digits_of(low, high, s);
+        let d = digits::digits_of(pack, s);
         if s.negated {
             return pack_parts(EACH_E, EACH_PLACE, EACH_PLACE, N_ASKED, d, EACH_DIGIT);
         }
         return pack_parts(EACH_E, EACH_PLACE, 1, N_ASKED, d, EACH_DIGIT);
     }
     if o == 105 {
-        let d = digits::digits_of(low, high, s);
+        let d = digits::digits_of(pack, s);
         return pack_parts(EACH_E, EACH_PLACE, EACH_PLACE, NEITHER_ASKED, d, d);
     }
     if o == 102 {
-        let zero = values::zero_of(low, high, s);
+        let zero = values::zero_of(pack, s);
         return any_digit(EACH_E, EACH_PLACE, EACH_PLACE, zero + F_ASKED);
     }
     if o == 116 {
-        let zero = values::zero_of(low, high, s);
+        let zero = values::zero_of(pack, s);
         return any_digit(EACH_E, EACH_PLACE, EACH_PLACE, zero + T_ASKED);
     }
     if o == 118 {
-        let v = values::places_of(low, high, s);
+        let v = values::places_of(pack, s);
         return any_digit(EACH_E, v, EACH_PLACE, NEITHER_ASKED);
     }
     if o == 119 {
-        let w = values::places_of(low, high, s);
+        let w = values::places_of(pack, s);
         return any_digit(EACH_E, EACH_PLACE, w, NEITHER_ASKED);
     }
-    let e = values::exponents_of(low, high, s);
+    let e = values::exponents_of(pack, s);
     any_digit(e, EACH_PLACE, EACH_PLACE, NEITHER_ASKED)
 }
 
 // The profile of the relations from place `from` to before `to`.
-pub fn clause_profile<'a>(
-    columns: &'a Columns,
-    low: &'a RangeEnds,
-    high: &'a RangeEnds,
-    from: usize,
-    to: usize,
-) -> u64
+pub fn clause_profile(pack: &Pack, from: usize, to: usize) -> u64
     requires { to ≤ relation_room }
-    ensures { result ≡ profile_of (relations_in (table columns.now low.now high.now) from to) }
+    ensures { result ≡ profile_of (relations_in (table_of pack.now) from to) }
 {
     let mut p = any_digit(EACH_E, EACH_PLACE, EACH_PLACE, NEITHER_ASKED);
     let mut j = from;
     while j < to {
-        p = p & relation_profile(low, high, single_at(columns, j));
+        p = p & relation_profile(pack, single_at(pack, j));
         j += 1;
     }
     p

@@ -10,7 +10,7 @@ ghost use Rattle.check_relation.specs.Runs.{far, next_with};
 
 use crate::{FAR, Run};
 use decimal::num::lesser;
-use pack_rules::RangeEnds;
+use pack_rules::Pack;
 
 // Whether y is in the range a..b.
 fn is_in(a: u32, b: u32, y: u64) -> bool
@@ -41,21 +41,21 @@ fn next_with(next: u64, a: u32, y: u64) -> u64
 
 // Whether y is in one of the ranges from place `from` to before `to`, and up to where it is so: past the
 // first that holds it, or up to where the next one begins.
-pub fn range_run<'a>(low: &'a RangeEnds, high: &'a RangeEnds, from: usize, to: usize, y: u64) -> Run
+pub fn range_run(pack: &Pack, from: usize, to: usize, y: u64) -> Run
     requires { (to ≤ range_room) × (y ≤ cap) }
-    ensures alike { Alike (λ (z : ℕ). any (in_range z) (ranges_in low.now high.now from to)) y result.says result.stop }
+    ensures alike { Alike (λ (z : ℕ). any (in_range z) (ranges_in pack.now.low pack.now.high from to)) y result.says result.stop }
     ensures stop_le_far { result.stop ≤ far }
 {
     let mut next = FAR;
     let mut k = from;
     while k < to {
-        if is_in(low[k], high[k], y) {
+        if is_in(pack.low[k], pack.high[k], y) {
             return Run {
                 says: true,
-                stop: behind(high[k]),
+                stop: behind(pack.high[k]),
             };
         }
-        next = next_with(next, low[k], y);
+        next = next_with(next, pack.low[k], y);
         k += 1;
     }
     Run {

@@ -13,7 +13,7 @@ ghost use Rattle.check_relation.specs.Runs.{tier, far, upwards};
 use crate::{Run, range};
 use check_laws::Query;
 use decimal::num::wide;
-use pack_rules::{RangeEnds, Single};
+use pack_rules::{Pack, Single};
 
 // x's remainder by m; x itself where m is 0.
 fn remainder(x: u64, m: u64) -> u64
@@ -33,12 +33,12 @@ fn turned(b: bool, negated: bool) -> bool
 }
 
 // What the relation says of the remainder y, or of the value y where it has no modulus.
-fn listed_run<'a>(low: &'a RangeEnds, high: &'a RangeEnds, s: Single, y: u64) -> Run
+fn listed_run(pack: &Pack, s: Single, y: u64) -> Run
     requires { (s.to ≤ range_room) × (y ≤ cap) }
-    ensures alike { Alike (listed (relation_by low.now high.now s)) y result.says result.stop }
+    ensures alike { Alike (listed (relation_by pack.now.low pack.now.high s)) y result.says result.stop }
     ensures stop_le_far { result.stop ≤ far }
 {
-    let r = range::range_run(low, high, s.from, s.to, y);
+    let r = range::range_run(pack, s.from, s.to, y);
     Run {
         says: turned(r.says, s.negated),
         stop: r.stop,
@@ -46,12 +46,12 @@ fn listed_run<'a>(low: &'a RangeEnds, high: &'a RangeEnds, s: Single, y: u64) ->
 }
 
 // Whether it holds of the value x.
-pub fn holds_of<'a>(low: &'a RangeEnds, high: &'a RangeEnds, s: Single, x: u64) -> bool
+pub fn holds_of(pack: &Pack, s: Single, x: u64) -> bool
     requires { (x ≤ cap) × (s.to ≤ range_room) }
-    ensures { result ≡ test (relation_by low.now high.now s) x }
+    ensures { result ≡ test (relation_by pack.now.low pack.now.high s) x }
 {
     let y = remainder(x, wide(s.modulus));
-    let r = listed_run(low, high, s, y);
+    let r = listed_run(pack, s, y);
     r.says
 }
 
@@ -133,22 +133,15 @@ fn upwards_by(y: u64, s: u64) -> u64
 }
 
 // What the relation, which is asked, asks of p at its level.
-pub fn own_run<'a>(
-    low: &'a RangeEnds,
-    high: &'a RangeEnds,
-    q: Query,
-    level: usize,
-    s: Single,
-    p: u64,
-) -> Run
+pub fn own_run(pack: &Pack, q: Query, level: usize, s: Single, p: u64) -> Run
     requires fit { Fit q }
     requires room { Room q p }
-    requires to_le_range_room { (s.to ≤ range_room) × (level < 9) × (level ≡ tier q (relation_by low.now high.now s)) }
-    ensures alike { Alike (own_one q level (relation_by low.now high.now s)) p result.says result.stop }
+    requires to_le_range_room { (s.to ≤ range_room) × (level < 9) × (level ≡ tier q (relation_by pack.now.low pack.now.high s)) }
+    ensures alike { Alike (own_one q level (relation_by pack.now.low pack.now.high s)) p result.says result.stop }
     ensures stop_le_far { result.stop ≤ far }
 {
     let k = asked_factor(q, s.operand);
-    let r = listed_run(low, high, s, p * k);
+    let r = listed_run(pack, s, p * k);
     Run {
         says: r.says,
         stop: upwards_by(r.stop, k),
@@ -156,13 +149,13 @@ pub fn own_run<'a>(
 }
 
 // Whether x passes what the relation asks of it.
-pub fn passes_of<'a>(low: &'a RangeEnds, high: &'a RangeEnds, q: Query, s: Single, x: u64) -> bool
+pub fn passes_of(pack: &Pack, q: Query, s: Single, x: u64) -> bool
     requires { Room q x × (s.to ≤ range_room) }
-    ensures { result ≡ passes q (relation_by low.now high.now s) x }
+    ensures { result ≡ passes q (relation_by pack.now.low pack.now.high s) x }
 {
     let k = factor_of(q, s.operand);
     if k == 0 {
         return true;
     }
-    holds_of(low, high, s, x * k)
+    holds_of(pack, s, x * k)
 }

@@ -4,7 +4,7 @@
 // has ended.
 ghost use Rattle.std.specs.Prelude.{◌≡◌, true, false, ◌+◌, ◌-◌, ◌≤◌, ◌<◌};
 ghost use Rattle.pack_rules.specs.Room.{relation_room};
-ghost use Rattle.pack_rules.specs.Stretch.{table, relation_at};
+ghost use Rattle.pack_rules.specs.Stretch.{table_of, relation_at};
 ghost use Rattle.check_laws.specs.Seek.{Alike};
 ghost use Rattle.check_laws.specs.Fast.{ends, passes_all};
 ghost use Rattle.check_laws.specs.Levels.{own_one, last_digit, own};
@@ -13,11 +13,10 @@ ghost use Rattle.check_laws.specs.Ready.{Fit, Room};
 ghost use Rattle.check_runs.specs.Kept.{kept_room, size_of, place_of, Kept, Listed};
 ghost use Rattle.check_relation.specs.Runs.{tier, far};
 
-use crate::KEPT;
+use crate::{LevelList, Runs};
 use check_laws::{Query, Span};
 use check_relation::{FAR, Run, relation};
-use decimal::num::lesser;
-use pack_rules::{Columns, RangeEnds, single_at};
+use pack_rules::{Pack, single_at};
 
 // How many places there are from `from` to before `to`.
 fn count(from: usize, to: usize) -> usize
@@ -69,82 +68,53 @@ fn digit_run(q: Query, level: usize, p: u64) -> Run
     }
 }
 
-// Lent as slices the arrays have the lengths that they are declared with; there is nothing else to do.
-fn sized<'a>(says: &'a [bool], stop: &'a [u64]) {}
-
 // The run of the relation k, as it is kept, or looked for anew and kept.
-fn run_at<'a>(
-    columns: &'a Columns,
-    low: &'a RangeEnds,
-    high: &'a RangeEnds,
-    s: Span,
-    q: Query,
-    level: usize,
-    p: u64,
-    k: usize,
-    says: &mut [bool; KEPT],
-    stop: &mut [u64; KEPT],
-) -> Run
+fn run_at(pack: &Pack, s: Span, q: Query, level: usize, p: u64, k: usize, runs: &mut Runs) -> Run
     requires fit { Fit q }
     requires room { Room q p }
-    requires to_le_relation_room { (s.to ≤ relation_room) × (s.stop ≤ relation_room) × (k < size_of s) × (k < kept_room) × (level < 9) × (level ≡ tier q (relation_at (table columns.now low.now high.now) (place_of s k))) }
-    requires kept { Kept (table columns.now low.now high.now) s q level p says.old stop.old }
-    ensures alike { Alike (own_one q level (relation_at (table columns.now low.now high.now) (place_of s k))) p result.says result.stop }
-    ensures kept_2 { Kept (table columns.now low.now high.now) s q level p says.new stop.new }
+    requires to_le_relation_room { (s.to ≤ relation_room) × (s.stop ≤ relation_room) × (k < size_of s) × (k < kept_room) × (level < 9) × (level ≡ tier q (relation_at (table_of pack.now) (place_of s k))) }
+    requires kept { Kept (table_of pack.now) s q level p runs.old.says runs.old.stop }
+    ensures alike { Alike (own_one q level (relation_at (table_of pack.now) (place_of s k))) p result.says result.stop }
+    ensures kept_2 { Kept (table_of pack.now) s q level p runs.new.says runs.new.stop }
 {
-    let end = stop[k];
+    let end = runs.stop[k];
     if p < end {
         return Run {
-            says: says[k],
+            says: runs.says[k],
             stop: end,
         };
     }
-    sized(says, stop);
-    let r = relation::own_run(low, high, q, level, single_at(columns, place_of(s, k)), p);
-    says[k] = r.says;
-    stop[k] = r.stop;
+    let r = relation::own_run(pack, q, level, single_at(pack, place_of(s, k)), p);
+    runs.says[k] = r.says;
+    runs.stop[k] = r.stop;
     r
 }
 
 // What the clause asks of p at a level, and up to where it says the same. `list` has the relations of the
 // level; the first that says no ends it.
-pub fn clause_run<'a>(
-    columns: &'a Columns,
-    low: &'a RangeEnds,
-    high: &'a RangeEnds,
-    s: Span,
-    q: Query,
-    list: &[usize; KEPT],
-    count: usize,
-    level: usize,
-    p: u64,
-    says: &mut [bool; KEPT],
-    stop: &mut [u64; KEPT],
-) -> Run
+pub fn clause_run(pack: &Pack, s: Span, q: Query, list: &LevelList, p: u64, runs: &mut Runs) -> Run
     requires fit { Fit q }
     requires room { Room q p }
-    requires to_le_relation_room { (s.to ≤ relation_room) × (s.stop ≤ relation_room) × (size_of s ≤ kept_room) × Listed (table columns.now low.now high.now) s q level list.now count }
-    requires kept { Kept (table columns.now low.now high.now) s q level p says.old stop.old }
-    ensures alike { Alike (own q (joined_in (table columns.now low.now high.now) s) level) p result.says result.stop }
+    requires to_le_relation_room { (s.to ≤ relation_room) × (s.stop ≤ relation_room) × (size_of s ≤ kept_room) × Listed (table_of pack.now) s q list.now.level list.now.at list.now.count }
+    requires kept { Kept (table_of pack.now) s q list.now.level p runs.old.says runs.old.stop }
+    ensures alike { Alike (own q (joined_in (table_of pack.now) s) list.now.level) p result.says result.stop }
     ensures stop_le_far { result.stop ≤ far }
-    ensures kept_2 { Kept (table columns.now low.now high.now) s q level p says.new stop.new }
+    ensures kept_2 { Kept (table_of pack.now) s q list.now.level p runs.new.says runs.new.stop }
 {
-    let digit = digit_run(q, level, p);
+    let digit = digit_run(q, list.level, p);
     if !digit.says {
         return digit;
     }
     let mut end = FAR;
-    let mut i = 0;
-    while i < count {
-        let r = run_at(columns, low, high, s, q, level, p, list[i], says, stop);
+    for i in 0..list.count {
+        let r = run_at(pack, s, q, list.level, p, list.at[i], runs);
         if !r.says {
             return Run {
                 says: false,
-                stop: lesser(r.stop, FAR),
+                stop: r.stop.min(FAR),
             };
         }
-        end = lesser(end, r.stop);
-        i += 1;
+        end = end.min(r.stop);
     }
     Run {
         says: true,
@@ -163,28 +133,17 @@ pub fn ends_of(q: Query, x: u64) -> bool
 }
 
 // Whether x passes all that the clause asks of it.
-pub fn passes_at<'a>(
-    columns: &'a Columns,
-    low: &'a RangeEnds,
-    high: &'a RangeEnds,
-    s: Span,
-    q: Query,
-    x: u64,
-) -> bool
+pub fn passes_at(pack: &Pack, s: Span, q: Query, x: u64) -> bool
     requires { Room q x × (s.to ≤ relation_room) × (s.stop ≤ relation_room) }
-    ensures { result ≡ passes_all q (joined_in (table columns.now low.now high.now) s) x }
+    ensures { result ≡ passes_all q (joined_in (table_of pack.now) s) x }
 {
     if !ends_of(q, x) {
         return false;
     }
-    let size = size_of(s);
-    let mut k = 0;
-    while k < size {
-        let j = place_of(s, k);
-        if !relation::passes_of(low, high, q, single_at(columns, j), x) {
+    for k in 0..size_of(s) {
+        if !relation::passes_of(pack, q, single_at(pack, place_of(s, k)), x) {
             return false;
         }
-        k += 1;
     }
     true
 }

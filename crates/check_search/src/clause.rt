@@ -8,7 +8,7 @@ ghost use Rattle.check_laws.specs.Check.{lowest};
 ghost use Rattle.check_laws.specs.Fast.{query_i, exponent_of, fractions, fraction_code, integer_of, kind_rank, clause_rank};
 ghost use Rattle.check_laws.specs.Floors.{NoneBelow, Under};
 ghost use Rattle.check_laws.specs.Profile.{profile_of};
-ghost use Rattle.pack_rules.specs.Stretch.{table};
+ghost use Rattle.pack_rules.specs.Stretch.{table_of};
 ghost use Rattle.check_laws.specs.Read.{joined_in};
 ghost use Rattle.check_laws.specs.Spots.{kind_spot, spot_rank, Proper};
 
@@ -19,7 +19,7 @@ use check_least::least_from;
 use check_places::{order, places};
 use decimal::num::power;
 use decimal::{DigitValue, Places};
-use pack_rules::{Columns, RangeEnds};
+use pack_rules::Pack;
 
 // The least integer part that an exponent allows.
 fn lowest_of(e: u64) -> u64
@@ -39,17 +39,9 @@ fn one_if(b: bool) -> u64
 }
 
 // The least i at e; there is none below the floor.
-pub fn integer_of<'a>(
-    columns: &'a Columns,
-    low: &'a RangeEnds,
-    high: &'a RangeEnds,
-    s: Span,
-    whole: bool,
-    e: u64,
-    floor: u64,
-) -> u64
-    requires { (e ≤ max_exponent) × (s.to ≤ relation_room) × (s.stop ≤ relation_room) × NoneBelow (query_i whole) (joined_in (table columns.now low.now high.now) s) floor }
-    ensures { result ≡ integer_of whole e (joined_in (table columns.now low.now high.now) s) }
+pub fn integer_of(pack: &Pack, s: Span, whole: bool, e: u64, floor: u64) -> u64
+    requires { (e ≤ max_exponent) × (s.to ≤ relation_room) × (s.stop ≤ relation_room) × NoneBelow (query_i whole) (joined_in (table_of pack.now) s) floor }
+    ensures { result ≡ integer_of whole e (joined_in (table_of pack.now) s) }
 {
     let n = one_if(whole);
     let q = Query {
@@ -60,7 +52,7 @@ pub fn integer_of<'a>(
         odd: false,
     };
     let lo = lowest_of(e);
-    least_from(columns, low, high, s, q, lo, floor, limits::INTEGER_LIMIT)
+    least_from(pack, s, q, lo, floor, limits::INTEGER_LIMIT)
 }
 
 // The number with e, with v and f as one number q, and with i; none where i is past the largest.
@@ -81,19 +73,10 @@ fn spot_of(e: u64, q: u64, i: u64) -> Witness
 
 // The least number at e whose f is not 0. There is no search where the floor leaves no t, and none for f
 // where there is no i.
-fn part_spot<'a>(
-    columns: &'a Columns,
-    low: &'a RangeEnds,
-    high: &'a RangeEnds,
-    s: Span,
-    b: Bounds,
-    p: u64,
-    l: Floors,
-    e: u64,
-) -> Witness
-    requires e_le_max_exponent { (e ≤ max_exponent) × (s.to ≤ relation_room) × (s.stop ≤ relation_room) × Under (joined_in (table columns.now low.now high.now) s) l }
-    requires p_value { p ≡ profile_of (bounded b (joined_in (table columns.now low.now high.now) s)) }
-    ensures { (spot_rank result ≡ kind_spot false e (bounded b (joined_in (table columns.now low.now high.now) s))) × Proper result }
+fn part_spot(pack: &Pack, s: Span, b: Bounds, p: u64, l: Floors, e: u64) -> Witness
+    requires e_le_max_exponent { (e ≤ max_exponent) × (s.to ≤ relation_room) × (s.stop ≤ relation_room) × Under (joined_in (table_of pack.now) s) l }
+    requires p_value { p ≡ profile_of (bounded b (joined_in (table_of pack.now) s)) }
+    ensures { (spot_rank result ≡ kind_spot false e (bounded b (joined_in (table_of pack.now) s))) × Proper result }
 {
     if !places::opens(check_profile::v_of(p), check_profile::w_of(p)) {
         return order::nowhere();
@@ -101,11 +84,11 @@ fn part_spot<'a>(
     if limits::FRACTION_LIMIT <= l.tail {
         return order::nowhere();
     }
-    let i = integer_of(columns, low, high, s, false, e, l.part);
+    let i = integer_of(pack, s, false, e, l.part);
     if limits::INTEGER_LIMIT <= i {
         return order::nowhere();
     }
-    let q = part_code(columns, low, high, s, b, p, l.tail);
+    let q = part_code(pack, s, b, p, l.tail);
     if limits::FRACTIONS <= q {
         return order::nowhere();
     }
@@ -128,50 +111,33 @@ fn comes_first(p: u64, q: u64, i: u64) -> bool
 }
 
 // The least number at e.
-fn spot_at<'a>(
-    columns: &'a Columns,
-    low: &'a RangeEnds,
-    high: &'a RangeEnds,
-    s: Span,
-    b: Bounds,
-    p: u64,
-    l: Floors,
-    e: u64,
-) -> Witness
-    requires e_le_max_exponent { (e ≤ max_exponent) × (s.to ≤ relation_room) × (s.stop ≤ relation_room) × Under (joined_in (table columns.now low.now high.now) s) l }
-    requires p_value { (p ≡ profile_of (bounded b (joined_in (table columns.now low.now high.now) s))) × (e ≡ exponent_of (bounded b (joined_in (table columns.now low.now high.now) s))) }
-    ensures { (spot_rank result ≡ clause_rank (bounded b (joined_in (table columns.now low.now high.now) s))) × Proper result }
+fn spot_at(pack: &Pack, s: Span, b: Bounds, p: u64, l: Floors, e: u64) -> Witness
+    requires e_le_max_exponent { (e ≤ max_exponent) × (s.to ≤ relation_room) × (s.stop ≤ relation_room) × Under (joined_in (table_of pack.now) s) l }
+    requires p_value { (p ≡ profile_of (bounded b (joined_in (table_of pack.now) s))) × (e ≡ exponent_of (bounded b (joined_in (table_of pack.now) s))) }
+    ensures { (spot_rank result ≡ clause_rank (bounded b (joined_in (table_of pack.now) s))) × Proper result }
 {
     let q = places::whole_code(p);
     if limits::FRACTIONS <= q {
-        return part_spot(columns, low, high, s, b, p, l, e);
+        return part_spot(pack, s, b, p, l, e);
     }
-    let i = integer_of(columns, low, high, s, true, e, l.whole);
+    let i = integer_of(pack, s, true, e, l.whole);
     let x = spot_of(e, q, i);
     if comes_first(p, q, i) {
         return x;
     }
-    let y = part_spot(columns, low, high, s, b, p, l, e);
+    let y = part_spot(pack, s, b, p, l, e);
     order::earlier(x, y)
 }
 
 // The least number of the clause whose v is within the bounds; p is the profile of both.
-pub fn clause_spot<'a>(
-    columns: &'a Columns,
-    low: &'a RangeEnds,
-    high: &'a RangeEnds,
-    s: Span,
-    b: Bounds,
-    p: u64,
-    l: Floors,
-) -> Witness
-    requires to_le_relation_room { (s.to ≤ relation_room) × (s.stop ≤ relation_room) × Under (joined_in (table columns.now low.now high.now) s) l }
-    requires p_value { p ≡ profile_of (bounded b (joined_in (table columns.now low.now high.now) s)) }
-    ensures { (spot_rank result ≡ clause_rank (bounded b (joined_in (table columns.now low.now high.now) s))) × Proper result }
+pub fn clause_spot(pack: &Pack, s: Span, b: Bounds, p: u64, l: Floors) -> Witness
+    requires to_le_relation_room { (s.to ≤ relation_room) × (s.stop ≤ relation_room) × Under (joined_in (table_of pack.now) s) l }
+    requires p_value { p ≡ profile_of (bounded b (joined_in (table_of pack.now) s)) }
+    ensures { (spot_rank result ≡ clause_rank (bounded b (joined_in (table_of pack.now) s))) × Proper result }
 {
     let e = check_profile::exponent_of(p);
     if limits::MAX_EXPONENT < e {
         return order::nowhere();
     }
-    spot_at(columns, low, high, s, b, p, l, e)
+    spot_at(pack, s, b, p, l, e)
 }

@@ -1,7 +1,7 @@
 // The least number that the relations of one level allow and that passes the levels below it.
 ghost use Rattle.std.specs.Prelude.{◌≡◌, ◌≤◌, ◌<◌, min};
 ghost use Rattle.pack_rules.specs.Room.{relation_room};
-ghost use Rattle.pack_rules.specs.Stretch.{table};
+ghost use Rattle.pack_rules.specs.Stretch.{table_of};
 ghost use Rattle.check_laws.specs.Levels.{own, below};
 ghost use Rattle.check_laws.specs.Read.{joined_in};
 ghost use Rattle.check_laws.specs.Ready.{Fit, Room};
@@ -11,43 +11,36 @@ ghost use Rattle.check_table.specs.Building.{Looked, Opens};
 
 use crate::Found;
 use check_laws::{Query, Span};
-use check_next::{LevelPlaces, Segments, next};
-use check_runs::KEPT;
+use check_next::{NextTable, next};
 use check_runs::clause::clause_run;
+use check_runs::{LevelList, Runs};
 use decimal::num::lesser;
-use pack_rules::{Columns, RangeEnds};
+use pack_rules::Pack;
 
 // Looks at the run of p. Where the relations of the level do not hold, its end is where to go on; where
 // they do, the next number of the levels below j is: it is found where it lies in the run.
-fn look<'a>(
-    columns: &'a Columns,
-    low: &'a RangeEnds,
-    high: &'a RangeEnds,
+fn look(
+    pack: &Pack,
     s: Span,
     q: Query,
-    list: &[usize; KEPT],
-    count: usize,
-    level: usize,
-    starts: &Segments,
-    ends: &Segments,
-    at: &LevelPlaces,
+    list: &LevelList,
+    table: &NextTable,
     j: usize,
     p: u64,
     end: u64,
-    says: &mut [bool; KEPT],
-    stop: &mut [u64; KEPT],
+    runs: &mut Runs,
 ) -> Found
-    requires fit { Fit q × Room q end × (p < end) × (s.to ≤ relation_room) × (s.stop ≤ relation_room) × (size_of s ≤ kept_room) × Listed (table columns.now low.now high.now) s q level list.now count }
-    requires laid { Laid starts.now ends.now at.now j }
-    requires tabled { Tabled (below q (joined_in (table columns.now low.now high.now) s)) starts.now ends.now at.now j }
-    requires kept { Kept (table columns.now low.now high.now) s q level p says.old stop.old }
-    ensures looked { Looked (own q (joined_in (table columns.now low.now high.now) s) level) (below q (joined_in (table columns.now low.now high.now) s) j) p end result.at result.stop }
-    ensures kept_2 { Kept (table columns.now low.now high.now) s q level p says.new stop.new }
+    requires fit { Fit q × Room q end × (p < end) × (s.to ≤ relation_room) × (s.stop ≤ relation_room) × (size_of s ≤ kept_room) × Listed (table_of pack.now) s q list.now.level list.now.at list.now.count }
+    requires laid { Laid table.now.starts table.now.ends table.now.at j }
+    requires tabled { Tabled (below q (joined_in (table_of pack.now) s)) table.now.starts table.now.ends table.now.at j }
+    requires kept { Kept (table_of pack.now) s q list.now.level p runs.old.says runs.old.stop }
+    ensures looked { Looked (own q (joined_in (table_of pack.now) s) list.now.level) (below q (joined_in (table_of pack.now) s) j) p end result.at result.stop }
+    ensures kept_2 { Kept (table_of pack.now) s q list.now.level p runs.new.says runs.new.stop }
 {
-    let run = clause_run(columns, low, high, s, q, list, count, level, p, says, stop);
+    let run = clause_run(pack, s, q, list, p, runs);
     if run.says {
         return Found {
-            at: next(starts, ends, at, j, p),
+            at: next(table, j, p),
             stop: lesser(run.stop, end),
         };
     }
@@ -60,36 +53,27 @@ fn look<'a>(
 // The least number from `from` on and below `end` that the relations of the level allow and that passes
 // the levels below j, and up to where the relations of the level hold; or `end`, and past the numbers
 // that were looked at.
-pub fn find<'a>(
-    columns: &'a Columns,
-    low: &'a RangeEnds,
-    high: &'a RangeEnds,
+pub fn find(
+    pack: &Pack,
     s: Span,
     q: Query,
-    list: &[usize; KEPT],
-    count: usize,
-    level: usize,
-    starts: &Segments,
-    ends: &Segments,
-    at: &LevelPlaces,
+    list: &LevelList,
+    table: &NextTable,
     j: usize,
     from: u64,
     end: u64,
-    says: &mut [bool; KEPT],
-    stop: &mut [u64; KEPT],
+    runs: &mut Runs,
 ) -> Found
-    requires fit { Fit q × Room q end × (from ≤ end) × (s.to ≤ relation_room) × (s.stop ≤ relation_room) × (size_of s ≤ kept_room) × Listed (table columns.now low.now high.now) s q level list.now count }
-    requires laid { Laid starts.now ends.now at.now j }
-    requires tabled { Tabled (below q (joined_in (table columns.now low.now high.now) s)) starts.now ends.now at.now j }
-    requires kept { Kept (table columns.now low.now high.now) s q level from says.old stop.old }
-    ensures opens { Opens (own q (joined_in (table columns.now low.now high.now) s) level) (below q (joined_in (table columns.now low.now high.now) s) j) from end result.at result.stop }
-    ensures kept_2 { Kept (table columns.now low.now high.now) s q level result.stop says.new stop.new }
+    requires fit { Fit q × Room q end × (from ≤ end) × (s.to ≤ relation_room) × (s.stop ≤ relation_room) × (size_of s ≤ kept_room) × Listed (table_of pack.now) s q list.now.level list.now.at list.now.count }
+    requires laid { Laid table.now.starts table.now.ends table.now.at j }
+    requires tabled { Tabled (below q (joined_in (table_of pack.now) s)) table.now.starts table.now.ends table.now.at j }
+    requires kept { Kept (table_of pack.now) s q list.now.level from runs.old.says runs.old.stop }
+    ensures opens { Opens (own q (joined_in (table_of pack.now) s) list.now.level) (below q (joined_in (table_of pack.now) s) j) from end result.at result.stop }
+    ensures kept_2 { Kept (table_of pack.now) s q list.now.level result.stop runs.new.says runs.new.stop }
 {
     let mut p = from;
     while p < end {
-        let f = look(
-            columns, low, high, s, q, list, count, level, starts, ends, at, j, p, end, says, stop,
-        );
+        let f = look(pack, s, q, list, table, j, p, end, runs);
         if f.at < f.stop {
             return f;
         }

@@ -1,7 +1,7 @@
 // The levels of the table, built one above the other.
 ghost use Rattle.std.specs.Prelude.{◌≡◌, true, false, ℕ, ◌+◌, ◌^◌, ◌≤◌, ◌<◌, get_or};
 ghost use Rattle.pack_rules.specs.Room.{relation_room};
-ghost use Rattle.pack_rules.specs.Stretch.{table};
+ghost use Rattle.pack_rules.specs.Stretch.{table_of};
 ghost use Rattle.check_laws.specs.Levels.{own, below};
 ghost use Rattle.check_laws.specs.Read.{joined_in};
 ghost use Rattle.check_laws.specs.Ready.{Fit};
@@ -11,56 +11,51 @@ ghost use Rattle.check_table.specs.Building.{Covers, BuiltAs};
 
 use crate::{Built, find};
 use check_laws::{Query, Span};
-use check_next::{LevelPlaces, ROOM, Segments};
-use check_runs::KEPT;
+use check_next::{NextTable, ROOM};
 use check_runs::clause::size_of;
 use check_runs::marks::list_level;
-use pack_rules::{Columns, RangeEnds};
+use check_runs::{KEPT, LevelMarks, Runs};
+use pack_rules::Pack;
 
 pub const LEVELS: usize = 7;
 
 // Stores the segments of level j behind those of the levels below it: what the relations of the level
 // allow, each from the first number on that passes the levels below. Returns the place behind the
 // last, or one past the room where it does not suffice.
-fn fill_level<'a>(
-    columns: &'a Columns,
-    low: &'a RangeEnds,
-    high: &'a RangeEnds,
+fn fill_level(
+    pack: &Pack,
     s: Span,
     q: Query,
-    tiers: &[usize; KEPT],
-    starts: &mut Segments,
-    ends: &mut Segments,
-    at: &LevelPlaces,
+    marks: &LevelMarks,
+    table: &mut NextTable,
     j: usize,
     m: u64,
 ) -> usize
-    requires fit { Fit q × (s.to ≤ relation_room) × (s.stop ≤ relation_room) × (size_of s ≤ kept_room) × (j < 7) × (m ≡ 10 ^ j) × Told (table columns.now low.now high.now) s q tiers.now }
-    requires laid { Laid starts.old ends.old at.now j }
-    requires tabled { Tabled (below q (joined_in (table columns.now low.now high.now) s)) starts.old ends.old at.now j }
-    ensures laid_2 { Laid starts.new ends.new at.now j }
-    ensures tabled_2 { Tabled (below q (joined_in (table columns.now low.now high.now) s)) starts.new ends.new at.now j }
-    ensures covers { result ≤ room → Covers (own q (joined_in (table columns.now low.now high.now) s) j) (below q (joined_in (table columns.now low.now high.now) s) j) (segments_in starts.new ends.new (get_or at.now j 0) result) (10 ^ j) }
+    requires fit { Fit q × (s.to ≤ relation_room) × (s.stop ≤ relation_room) × (size_of s ≤ kept_room) × (j < 7) × (m ≡ 10 ^ j) × Told (table_of pack.now) s q marks.now.tiers }
+    requires laid { Laid table.old.starts table.old.ends table.old.at j }
+    requires tabled { Tabled (below q (joined_in (table_of pack.now) s)) table.old.starts table.old.ends table.old.at j }
+    ensures laid_2 { Laid table.new.starts table.new.ends table.old.at j }
+    ensures tabled_2 { Tabled (below q (joined_in (table_of pack.now) s)) table.new.starts table.new.ends table.old.at j }
+    ensures at_kept { table.new.at ≡ table.old.at }
+    ensures covers { result ≤ room → Covers (own q (joined_in (table_of pack.now) s) j) (below q (joined_in (table_of pack.now) s) j) (segments_in table.new.starts table.new.ends (get_or table.old.at j 0) result) (10 ^ j) }
 {
-    let mut says = [false; KEPT];
-    let mut stop: [u64; KEPT] = [0; KEPT];
-    let mut list: [usize; KEPT] = [0; KEPT];
-    let count = list_level(tiers, size_of(s), j, &mut list);
-    let mut n = at[j];
+    let mut runs = Runs {
+        says: [false; KEPT],
+        stop: [0; KEPT],
+    };
+    let list = list_level(marks, size_of(s), j);
+    let mut n = table.at[j];
     let mut p: u64 = 0;
     while p < m {
-        let f = find::find(
-            columns, low, high, s, q, &list, count, j, starts, ends, at, j, p, m, &mut says,
-            &mut stop,
-        );
+        let f = find::find(pack, s, q, &list, table, j, p, m, &mut runs);
         if m <= f.at {
             return n;
         }
         if ROOM <= n {
             return ROOM + 1;
         }
-        starts[n] = f.at as u32;
-        ends[n] = (f.stop - 1) as u32;
+        table.starts[n] = f.at as u32;
+        table.ends[n] = (f.stop - 1) as u32;
         n += 1;
         p = f.stop;
     }
@@ -68,66 +63,48 @@ fn fill_level<'a>(
 }
 
 // Adds level j to the table, where its relations are asked; where they are not, it asks nothing.
-fn add_level<'a>(
-    columns: &'a Columns,
-    low: &'a RangeEnds,
-    high: &'a RangeEnds,
+fn add_level(
+    pack: &Pack,
     s: Span,
     q: Query,
-    tiers: &[usize; KEPT],
-    on: bool,
-    starts: &mut Segments,
-    ends: &mut Segments,
-    at: &mut LevelPlaces,
+    marks: &LevelMarks,
+    table: &mut NextTable,
     j: usize,
     m: u64,
 ) -> Built
-    requires fit { Fit q × (s.to ≤ relation_room) × (s.stop ≤ relation_room) × (size_of s ≤ kept_room) × (j < 7) × (m ≡ 10 ^ j) × Told (table columns.now low.now high.now) s q tiers.now }
-    requires x_value { on ≡ false → (x : ℕ) → own q (joined_in (table columns.now low.now high.now) s) j x ≡ true }
-    requires laid { Laid starts.old ends.old at.old j }
-    requires tabled { Tabled (below q (joined_in (table columns.now low.now high.now) s)) starts.old ends.old at.old j }
-    ensures { BuiltAs (below q (joined_in (table columns.now low.now high.now) s)) starts.new ends.new at.new (j + 1) result }
+    requires fit { Fit q × (s.to ≤ relation_room) × (s.stop ≤ relation_room) × (size_of s ≤ kept_room) × (j < 7) × (m ≡ 10 ^ j) × Told (table_of pack.now) s q marks.now.tiers }
+    requires x_value { get_or marks.now.asked j false ≡ false → (x : ℕ) → own q (joined_in (table_of pack.now) s) j x ≡ true }
+    requires laid { Laid table.old.starts table.old.ends table.old.at j }
+    requires tabled { Tabled (below q (joined_in (table_of pack.now) s)) table.old.starts table.old.ends table.old.at j }
+    ensures { BuiltAs (below q (joined_in (table_of pack.now) s)) table.new.starts table.new.ends table.new.at (j + 1) result }
 {
-    let from = at[j];
-    if !on {
-        at[j + 1] = from;
+    let from = table.at[j];
+    if !marks.asked[j] {
+        table.at[j + 1] = from;
         return Built::Stands;
     }
-    let end = fill_level(columns, low, high, s, q, tiers, starts, ends, at, j, m);
+    let end = fill_level(pack, s, q, marks, table, j, m);
     if ROOM < end {
         return Built::Full;
     }
     if end <= from {
         return Built::Empty;
     }
-    at[j + 1] = end;
+    table.at[j + 1] = end;
     Built::Stands
 }
 
 // Builds the levels of the table in turn.
-pub fn build<'a>(
-    columns: &'a Columns,
-    low: &'a RangeEnds,
-    high: &'a RangeEnds,
-    s: Span,
-    q: Query,
-    tiers: &[usize; KEPT],
-    asked: &[bool; 9],
-    starts: &mut Segments,
-    ends: &mut Segments,
-    at: &mut LevelPlaces,
-) -> Built
-    requires fit { Fit q × (s.to ≤ relation_room) × (s.stop ≤ relation_room) × (size_of s ≤ kept_room) × Told (table columns.now low.now high.now) s q tiers.now }
-    requires by_index { (j : ℕ) → j < 9 → get_or asked.now j false ≡ false → (x : ℕ) → own q (joined_in (table columns.now low.now high.now) s) j x ≡ true }
-    requires laid { Laid starts.old ends.old at.old 0 }
-    ensures { BuiltAs (below q (joined_in (table columns.now low.now high.now) s)) starts.new ends.new at.new 7 result }
+pub fn build(pack: &Pack, s: Span, q: Query, marks: &LevelMarks, table: &mut NextTable) -> Built
+    requires fit { Fit q × (s.to ≤ relation_room) × (s.stop ≤ relation_room) × (size_of s ≤ kept_room) × Told (table_of pack.now) s q marks.now.tiers }
+    requires by_index { (j : ℕ) → j < 9 → get_or marks.now.asked j false ≡ false → (x : ℕ) → own q (joined_in (table_of pack.now) s) j x ≡ true }
+    requires laid { Laid table.old.starts table.old.ends table.old.at 0 }
+    ensures { BuiltAs (below q (joined_in (table_of pack.now) s)) table.new.starts table.new.ends table.new.at 7 result }
 {
     let mut m: u64 = 1;
     let mut j: usize = 0;
     while j < LEVELS {
-        let b = add_level(
-            columns, low, high, s, q, tiers, asked[j], starts, ends, at, j, m,
-        );
+        let b = add_level(pack, s, q, marks, table, j, m);
         match b {
             Built::Stands => {}
             Built::Empty => {

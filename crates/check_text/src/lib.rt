@@ -7,18 +7,15 @@ ghost use Rattle.check_text.specs.Check.{checked_by, check_pack};
 
 use answer::{Refusal, RulesRow};
 use check_laws::Checked;
-use pack_rules::{ClauseEnds, Columns, Keywords, RangeEnds, RuleEnds};
+use pack_rules::Pack;
 use pack_verdict::Read;
-
 
 fn checked_by(c: Checked) -> Result<(), Refusal>
     ensures { result ≡ checked_by c }
 {
     match c {
         Checked::Passes => Ok(()),
-        Checked::Clashes(pair, x) => Err(Refusal::Rules(RulesRow::RulesClash(
-            pair, x,
-        ))),
+        Checked::Clashes(pair, x) => Err(Refusal::Rules(RulesRow::RulesClash(pair, x))),
     }
 }
 
@@ -26,25 +23,10 @@ fn checked_by(c: Checked) -> Result<(), Refusal>
 fn check_read(pack: &[u8]) -> Result<(), Refusal>
     ensures { result ≡ check_pack pack.now }
 {
-    let mut low: RangeEnds = [0; 2048];
-    let mut high: RangeEnds = [0; 2048];
-    let mut columns: Columns = [0; 1280];
-    let mut relations: ClauseEnds = [0; 40];
-    let mut keyword: Keywords = [0; 6];
-    let mut clauses: RuleEnds = [0; 6];
-    let read = pack_reader::read_pack(
-        pack,
-        &mut low,
-        &mut high,
-        &mut columns,
-        &mut relations,
-        &mut keyword,
-        &mut clauses,
-    );
+    let mut pack = pack_rules::empty();
+    let read = pack_reader::read_pack(pack, &mut pack);
     match read {
-        Ok(count) => checked_by(check_pairs::check(
-            &columns, &low, &high, &relations, &keyword, &clauses, count,
-        )),
+        Ok(count) => checked_by(check_pairs::check(&pack)),
         Err(refusal) => Err(refusal),
     }
 }

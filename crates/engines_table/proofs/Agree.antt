@@ -8,7 +8,8 @@ use borrow.Author.Tests.{eqb-true, eq-eqb, ne_eqb}
 use Rattle.decimal.specs.Choice.{both}
 use Rattle.answer.specs.declared.Pair.{Pair}
 use Rattle.answer.specs.declared.Witness.{Witness}
-use Rattle.pack_rules.specs.Held.{Pack, held_rules}
+use Rattle.pack_rules.specs.declared.Pack.{Pack}
+use Rattle.pack_rules.specs.Held.{held_rules}
 use Rattle.check_laws.specs.Check.{check_of}
 use Rattle.check_laws.specs.declared.Checked.{Checked}
 use Rattle.check_laws.specs.declared.Checked.TheVariants.{Passes, Clashes}

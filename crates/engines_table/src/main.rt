@@ -5,13 +5,13 @@
 
 ghost use Rattle.std.specs.Prelude.{◌≡◌};
 ghost use Rattle.decimal.specs.Choice.{both};
-ghost use Rattle.pack_rules.specs.Held.{held_rules, lent};
+ghost use Rattle.pack_rules.specs.Held.{held_rules};
 ghost use Rattle.check_laws.specs.Check.{check_of};
 ghost use Rattle.engines_table.specs.Same.{same_pair, same_number, same_clash, same_answer};
 
 use answer::{Pair, Refusal, Witness};
 use check_laws::Checked;
-use pack_rules::{ClauseEnds, Columns, Keywords, RangeEnds, RuleEnds};
+use pack_rules::Pack;
 use pack_verdict::Read;
 use std::io;
 use std::io::Read as _;
@@ -24,19 +24,13 @@ pub struct Answers {
 }
 
 // Both answers: they are equal, for every pack.
-fn ask_both<'a>(
-    columns: &'a Columns,
-    low: &'a RangeEnds,
-    high: &'a RangeEnds,
-    relations: &'a ClauseEnds,
-    keyword: &'a Keywords,
-    clauses: &'a RuleEnds,
-    count: usize,
+fn ask_both(
+    pack: &Pack,
 ) -> Answers
-    ensures { (result.fast ≡ result.plain) × (result.plain ≡ check_of (held_rules (lent low.now high.now columns.now relations.now keyword.now clauses.now count))) }
+    ensures { (result.fast ≡ result.plain) × (result.plain ≡ check_of (held_rules pack.now)) }
 {
-    let fast = check_pairs::check(columns, low, high, relations, keyword, clauses, count);
-    let plain = check_plain::check(columns, low, high, relations, keyword, clauses, count);
+    let fast = check_pairs::check(pack);
+    let plain = check_plain::check(pack);
     Answers {
         fast: fast,
         plain: plain,
@@ -163,25 +157,15 @@ fn print_refusal(rt: &impl Print, r: Refusal) -> io::Result<()> {
 }
 
 fn print_check(rt: &impl Print, pack: &[u8]) -> io::Result<()> {
-    let mut low: RangeEnds = [0; 2048];
-    let mut high: RangeEnds = [0; 2048];
-    let mut columns: Columns = [0; 1280];
-    let mut relations: ClauseEnds = [0; 40];
-    let mut keyword: Keywords = [0; 6];
-    let mut clauses: RuleEnds = [0; 6];
+    let mut pack = pack_rules::empty();
     let read = pack_reader::read_pack(
         pack,
-        &mut low,
-        &mut high,
-        &mut columns,
-        &mut relations,
-        &mut keyword,
-        &mut clauses,
+        &mut pack,
     );
     match read {
         Ok(count) => print_answers(
             rt,
-            ask_both(&columns, &low, &high, &relations, &keyword, &clauses, count),
+            ask_both(&pack),
         ),
         Err(x) => print_refusal(rt, x),
     }

@@ -4,12 +4,12 @@
 ghost use Rattle.std.specs.Prelude.{◌≡◌, ◌%◌, ◌≤◌, ◌<◌, min, get_or};
 ghost use Rattle.decimal.specs.Lists.{any};
 ghost use Rattle.pack_rules.specs.Room.{clause_room, range_room, relation_room};
-ghost use Rattle.pack_rules.specs.Stretch.{start_at, ranges_in, relation_by, table, relations_in, clauses_in};
+ghost use Rattle.pack_rules.specs.Stretch.{start_at, ranges_in, relation_by, table_of, relations_in, clauses_in};
 ghost use Rattle.meaning.specs.Meaning.{in_range, operand_value, is_whole, holds, clause_holds, condition_holds};
 
-use decimal::num::{fewer, wide, wide_byte};
+use decimal::num::{wide, wide_byte};
 use number::Number;
-use pack_rules::{ClauseEnds, Columns, RELATION_ROOM, RangeEnds, Single, single_at};
+use pack_rules::{Pack, RELATION_ROOM, Single, single_at, start_at, stop_at};
 
 // x's remainder by m; x itself where m is 0.
 fn remainder(x: u64, m: u64) -> u64
@@ -69,13 +69,13 @@ fn in_range(a: u32, b: u32, x: u64) -> bool
 }
 
 // x is in one of the ranges at `from` to before `to`.
-fn in_ranges<'a>(low: &'a RangeEnds, high: &'a RangeEnds, from: usize, to: usize, x: u64) -> bool
+fn in_ranges(pack: &Pack, from: usize, to: usize, x: u64) -> bool
     requires { to ≤ range_room }
-    ensures { result ≡ any (in_range x) (ranges_in low.now high.now from to) }
+    ensures { result ≡ any (in_range x) (ranges_in pack.now.low pack.now.high from to) }
 {
     let mut k = from;
     while k < to {
-        if in_range(low[k], high[k], x) {
+        if in_range(pack.low[k], pack.high[k], x) {
             return true;
         }
         k += 1;
@@ -84,15 +84,15 @@ fn in_ranges<'a>(low: &'a RangeEnds, high: &'a RangeEnds, from: usize, to: usize
 }
 
 // The relation holds.
-fn relation_holds<'a>(low: &'a RangeEnds, high: &'a RangeEnds, s: Single, x: Number) -> bool
+fn relation_holds(pack: &Pack, s: Single, x: Number) -> bool
     requires { s.to ≤ range_room }
-    ensures { result ≡ holds (relation_by low.now high.now s) x }
+    ensures { result ≡ holds (relation_by pack.now.low pack.now.high s) x }
 {
     if !is_whole(s.operand, x) {
         return s.negated;
     }
     let value = remainder(operand_value(s.operand, x), wide(s.modulus));
-    let listed = in_ranges(low, high, s.from, s.to, value);
+    let listed = in_ranges(pack, s.from, s.to, value);
     if s.negated {
         return !listed;
     }
@@ -100,20 +100,13 @@ fn relation_holds<'a>(low: &'a RangeEnds, high: &'a RangeEnds, s: Single, x: Num
 }
 
 // The relations at `from` to before `to` all hold.
-fn clause_holds<'a>(
-    columns: &'a Columns,
-    low: &'a RangeEnds,
-    high: &'a RangeEnds,
-    from: usize,
-    to: usize,
-    x: Number,
-) -> bool
+fn clause_holds(pack: &Pack, from: usize, to: usize, x: Number) -> bool
     requires { to ≤ relation_room }
-    ensures { result ≡ clause_holds (relations_in (table columns.now low.now high.now) from to) x }
+    ensures { result ≡ clause_holds (relations_in (table_of pack.now) from to) x }
 {
     let mut j = from;
     while j < to {
-        if !relation_holds(low, high, single_at(columns, j), x) {
+        if !relation_holds(pack, single_at(pack, j), x) {
             return false;
         }
         j += 1;
@@ -121,45 +114,17 @@ fn clause_holds<'a>(
     true
 }
 
-// Where the clause j's relations begin, and where they end.
-fn relations_start(relations: &ClauseEnds, j: usize) -> usize
-    requires { j < clause_room }
-    ensures { result ≡ start_at relations.now j }
-{
-    if j == 0 {
-        return 0;
-    }
-    relations[j - 1]
-}
-
-fn relations_stop(relations: &ClauseEnds, j: usize) -> usize
-    requires { j < clause_room }
-    ensures { result ≡ min (get_or relations.now j 0) relation_room }
-{
-    fewer(relations[j], RELATION_ROOM)
-}
-
 // One of the clauses at `from` to before `to` holds.
-pub fn condition_holds<'a>(
-    columns: &'a Columns,
-    low: &'a RangeEnds,
-    high: &'a RangeEnds,
-    relations: &'a ClauseEnds,
-    from: usize,
-    to: usize,
-    x: Number,
-) -> bool
+pub fn condition_holds(pack: &Pack, from: usize, to: usize, x: Number) -> bool
     requires { to ≤ clause_room }
-    ensures { result ≡ condition_holds (clauses_in (table columns.now low.now high.now) relations.now from to) x }
+    ensures { result ≡ condition_holds (clauses_in (table_of pack.now) pack.now.relations from to) x }
 {
     let mut j = from;
     while j < to {
         if clause_holds(
-            columns,
-            low,
-            high,
-            relations_start(relations, j),
-            relations_stop(relations, j),
+            pack,
+            start_at(&pack.relations, j),
+            stop_at(&pack.relations, j, RELATION_ROOM),
             x,
         ) {
             return true;

@@ -11,7 +11,7 @@ use borrow.Author.Tests.{ltb-false, le-ltb}
 use Rattle.std.specs.Prelude.{Ok, Result, if◌then◌else◌}
 use Rattle.decimal.proofs.Choices.{choice, tested, not_both}
 use Rattle.pack_rules.specs.Syntax.{Relation}
-use Rattle.pack_rules.specs.Held.{held_rules, lent}
+use Rattle.pack_rules.specs.Held.{held_rules}
 use Rattle.pack_token.specs.Spelling.{same}
 use Rattle.pack_token.specs.Token.{dots, differ, Token, tokens}
 use Rattle.pack_token.proofs.Pieces.{Placed, placed_le, placed}

@@ -2,7 +2,8 @@
 use Rattle.answer.specs.declared.Refusal.{Refusal}
 use Rattle.std.specs.Prelude.{Err, Ok, Result, ◌≡◌, List, [], ℕ, length}
 use Rattle.pack_rules.specs.Syntax.{Rule}
-use Rattle.pack_rules.specs.Held.{Pack, held_rules}
+use Rattle.pack_rules.specs.declared.Pack.{Pack}
+use Rattle.pack_rules.specs.Held.{held_rules}
 use Rattle.pack_grammar.specs.Reader.{PackAnswer}
 use Rattle.pack_grammar.specs.Reader.PackAnswer.{Rules, Refused}
 

@@ -1,7 +1,7 @@
 -- The arrays of a pack while it is read, and how a token changes them. A relation, a clause and a rule are stored when the token behind them closes them.
 use Rattle.std.specs.Prelude.{◌≡◌, Bool, false, List, [], ◌∷◌, ℕ, ◌*◌, ◌-◌, ltb, length, take, drop, if◌then◌else◌}
 use Rattle.pack_rules.specs.Room.{range_room, relation_room, clause_room, rule_room}
-use Rattle.pack_rules.specs.Held.{Pack, lent}
+use Rattle.pack_rules.specs.declared.Pack.{Pack}
 use Rattle.pack_token.specs.Token.{Token, tokens}
 use Rattle.pack_grammar.specs.Limits.{max_bytes}
 use Rattle.pack_grammar.specs.Grammar.{Text, semi}

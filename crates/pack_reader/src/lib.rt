@@ -9,7 +9,6 @@
 
 ghost use Rattle.std.specs.Prelude.{◌≡◌};
 ghost use Rattle.pack_grammar.specs.Reader.{read_pack};
-ghost use Rattle.pack_rules.specs.Held.{lent};
 ghost use Rattle.pack_reader.specs.Answer.{count_in, ReadAs};
 ghost use Rattle.pack_reader.specs.Board.{token_at, start_walk, within4096};
 
@@ -19,13 +18,13 @@ use pack_counts::Counts;
 use pack_faults::Mark;
 use pack_grammar::MAX_BYTES;
 use pack_phase::Phase;
-use pack_rules::{ClauseEnds, Columns, Keywords, RangeEnds, RuleEnds};
+use pack_rules::Pack;
 use pack_token::{piece_len, skip_white};
 use pack_verdict::{Read, judge_all};
 use pack_walk::{Current, Step, Walk, step_after};
 
 // The token of m bytes at a place of s; behind s, its end.
-fn token_at<'a>(s: &'a [u8], end: &'a [u8], at: usize, m: usize) -> &'a [u8]
+fn token_at(s: &[u8], end: &[u8], at: usize, m: usize) -> &'a [u8]
     ensures { result.now ≡ token_at s.now end.now at m }
 {
     if at < s.len() {
@@ -88,16 +87,11 @@ fn sized(
 // refusal 20 to 26.
 pub fn read_pack(
     text: &[u8],
-    low: &mut RangeEnds,
-    high: &mut RangeEnds,
-    columns: &mut Columns,
-    relations: &mut ClauseEnds,
-    keyword: &mut Keywords,
-    clauses: &mut RuleEnds,
+    pack: &mut Pack,
 ) -> Result<usize, Refusal>
     ensures { ReadAs (read_pack text.now) result (lent low.new high.new columns.new relations.new keyword.new clauses.new (count_in result)) }
 {
-    sized(low, high, columns, relations, keyword, clauses);
+    sized(pack, columns, relations, keyword, clauses);
     let s = within(text);
     let end = b";";
     let mut w = start();

@@ -8,7 +8,8 @@ use lib.Dec.{eqb, eqb-suc-zero}
 use lib.ListN.{length, get_or, take, drop, length-take}
 use lib.Seq.{get_or-take}
 use Rattle.pack_rules.specs.Syntax.{Range, Relation, Rule}
-use Rattle.pack_rules.specs.Held.{Pack, Row, rows_of, row_ends, parts, keyword_of, ranges_from, relations_from, rules_from, held_ranges, held_relations, held_clauses, held_rules}
+use Rattle.pack_rules.specs.declared.Pack.{Pack}
+use Rattle.pack_rules.specs.Held.{Row, rows_of, row_ends, parts, keyword_of, ranges_from, relations_from, rules_from, held_ranges, held_relations, held_clauses, held_rules}
 use Rattle.pack_rules.specs.Stretch.{stretch, start_at, range_at, ranges_in, end_at, ranges_from_at, table_of, relation_at, clause_at, rule_at}
 
 -- ---- stretches

@@ -2,17 +2,8 @@
 use Rattle.std.specs.Prelude.{List, [], ◌∷◌, map, ℕ, ◌-◌, eqb, take, drop, if◌then◌else◌}
 use Rattle.answer.specs.declared.Keyword.{Keyword}
 use Rattle.answer.specs.declared.Keyword.TheVariants.{Zero, One, Two, Few, Many, Other}
+use Rattle.pack_rules.specs.declared.Pack.{Pack}
 use Rattle.pack_rules.specs.Syntax.{Range, Relation, Rule}
-
--- the arrays of a parsed pack (src/lib.rt says what each holds), and how many rules there are
-pub record Pack : Type 0 where
-  pub low : List ℕ
-  pub high : List ℕ
-  pub columns : List ℕ
-  pub relations : List ℕ
-  pub keyword : List ℕ
-  pub clauses : List ℕ
-  pub count : ℕ
 
 -- the parts of a list that end at these places, one behind the other, the first beginning at `from`
 abbrev pub parts : {A : Type 0} → ℕ → List ℕ → List A → List (List A)
@@ -75,16 +66,3 @@ held_clauses p = parts 0 p.relations (held_relations p)
 -- the pack's rules, in the order of the text
 abbrev pub held_rules : Pack → List Rule
 held_rules p = rules_from (take p.count p.keyword) (parts 0 p.clauses (held_clauses p))
-
--- a pack with these arrays and so many rules, as they are lent to whoever selects from them
-abbrev pub lent : List ℕ → List ℕ → List ℕ → List ℕ → List ℕ → List ℕ → ℕ → Pack
-lent low high columns relations keyword clauses count =
-    record {
-      low = low;
-      high = high;
-      columns = columns;
-      relations = relations;
-      keyword = keyword;
-      clauses = clauses;
-      count = count;
-    }

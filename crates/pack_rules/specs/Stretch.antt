@@ -2,7 +2,8 @@
 use Rattle.std.specs.Prelude.{List, [], ◌∷◌, ℕ, zero, suc, ◌+◌, ◌*◌, ◌-◌, min, eqb, get_or, if◌then◌else◌}
 use Rattle.pack_rules.specs.Room.{range_room, relation_room, clause_room}
 use Rattle.pack_rules.specs.Syntax.{Range, Relation, Rule}
-use Rattle.pack_rules.specs.Held.{Pack, keyword_of}
+use Rattle.pack_rules.specs.declared.Pack.{Pack}
+use Rattle.pack_rules.specs.Held.{keyword_of}
 use Rattle.pack_rules.specs.declared.Single.{Single}
 
 -- the n elements g from, g (from + 1), ..

@@ -1,22 +1,15 @@
 // The rules of a pack: their syntax, and the flat arrays in which a parsed pack holds them.
 //
-// specs/Syntax.antt has the rules as they are written, specs/Held.antt reads them back from the arrays.
-// Whoever reads a pack makes the arrays as locals, pack_reader fills them, and selection and check are
-// lent them; `single_at` takes a relation's numbers out of them, once, for those who look at it alone.
-// Every array is filled from its front; what lies past the filled part means nothing.
-//
-//   low, high   RangeEnds     the ends of ranges `a..b`; a value a is the range a..a
-//   columns     Columns       four numbers for each relation, at 4 * j: its operand's letter, its
-//                             modulus (0: none), its comparison's code (0 `=`, 1 `!=`), and where its
-//                             ranges end
-//   relations   ClauseEnds    where the relations of each clause end
-//   keyword     Keywords      of each rule: its keyword's number,
-//   clauses     RuleEnds      and where its clauses end; `other:` has none
+// specs/Syntax.antt has the rules as they are written, specs/Held.antt reads them back from a pack.
+// Whoever reads a pack makes an empty one, pack_reader fills it, and selection and check are lent it;
+// `single_at` takes a relation's numbers out of it, once, for those who look at it alone, `start_at`
+// and `stop_at` tell where the relations of a clause and the clauses of a rule stand.
 #![tactic(auto)]
 
-ghost use Rattle.std.specs.Prelude.{◌≡◌, ◌≤◌, ◌<◌, min};
+ghost use Rattle.std.specs.Prelude.{◌≡◌, [], ◌≤◌, ◌<◌, min, get_or};
 ghost use Rattle.pack_rules.specs.Room.{range_room, relation_room};
-ghost use Rattle.pack_rules.specs.Stretch.{end_at, ranges_from_at, single_at};
+ghost use Rattle.pack_rules.specs.Held.{held_rules};
+ghost use Rattle.pack_rules.specs.Stretch.{start_at, end_at, ranges_from_at, single_at};
 
 pub const RANGE_ROOM: usize = 2048;
 
@@ -36,6 +29,56 @@ pub type Keywords = [u8; RULE_ROOM];
 
 pub type RuleEnds = [usize; RULE_ROOM];
 
+// A pack that was read. Every array is filled from its front; what lies past the filled part means
+// nothing.
+pub struct Pack {
+    // The ends of ranges `a..b`; a value a is the range a..a.
+    pub low: RangeEnds,
+    pub high: RangeEnds,
+    // Four numbers for each relation, at 4 * j: its operand's letter, its modulus (0: none), its
+    // comparison's code (0 `=`, 1 `!=`), and where its ranges end.
+    pub columns: Columns,
+    // Where the relations of each clause end.
+    pub relations: ClauseEnds,
+    // Of each rule: its keyword's number, and where its clauses end; `other:` has none.
+    pub keyword: Keywords,
+    pub clauses: RuleEnds,
+    // How many rules there are.
+    pub count: usize,
+}
+
+// A pack without rules.
+pub fn empty() -> Pack
+    ensures { held_rules result ≡ [] }
+{
+    Pack {
+        low: [0; RANGE_ROOM],
+        high: [0; RANGE_ROOM],
+        columns: [0; 1280],
+        relations: [0; CLAUSE_ROOM],
+        keyword: [0; RULE_ROOM],
+        clauses: [0; RULE_ROOM],
+        count: 0,
+    }
+}
+
+// Where the part k begins, of parts that end at these places: where the one before it ends.
+pub fn start_at(ends: &[usize], k: usize) -> usize
+    ensures { result ≡ start_at ends.now k }
+{
+    if k == 0 {
+        return 0;
+    }
+    ends.get(k - 1).copied().unwrap_or(0)
+}
+
+// Where the part k ends, among `room` places.
+pub fn stop_at(ends: &[usize], k: usize, room: usize) -> usize
+    ensures { result ≡ min (get_or ends.now k 0) room }
+{
+    ends.get(k).copied().unwrap_or(0).min(room)
+}
+
 // A relation's numbers: its operand's letter, its modulus, whether it is `!=`, and where its ranges
 // begin and end.
 #[derive(Clone, Copy)]
@@ -47,50 +90,36 @@ pub struct Single {
     pub to: usize,
 }
 
-fn place(x: u32) -> usize
-    ensures { result ≡ x }
-{
-    x as usize
-}
-
 // Where the ranges of the relation j end.
-fn end_at(columns: &Columns, j: usize) -> usize
+fn end_at(pack: &Pack, j: usize) -> usize
     requires { j < relation_room }
-    ensures { result ≡ end_at columns.now j }
+    ensures { result ≡ end_at pack.now.columns j }
 {
-    place(columns[4 * j + 3])
+    pack.columns[4 * j + 3] as usize
 }
 
 // Where they begin: where those of the relation before it end.
-pub fn from_at(columns: &Columns, j: usize) -> usize
+pub fn from_at(pack: &Pack, j: usize) -> usize
     requires { j ≤ relation_room }
-    ensures { result ≡ ranges_from_at columns.now j }
+    ensures { result ≡ ranges_from_at pack.now.columns j }
 {
     if j == 0 {
         return 0;
     }
-    end_at(columns, j - 1)
-}
-
-fn within(n: usize) -> usize
-    ensures { result ≡ min n range_room }
-{
-    if n < RANGE_ROOM { n } else { RANGE_ROOM }
+    end_at(pack, j - 1)
 }
 
 // The relation j's numbers.
-pub fn single_at(columns: &Columns, j: usize) -> Single
+pub fn single_at(pack: &Pack, j: usize) -> Single
     requires { j < relation_room }
-    ensures value { result ≡ single_at columns.now j }
+    ensures value { result ≡ single_at pack.now.columns j }
     ensures to_le_range_room { result.to ≤ range_room }
 {
-    let from = from_at(columns, j);
-    let to = within(end_at(columns, j));
     Single {
-        operand: columns[4 * j],
-        modulus: columns[4 * j + 1],
-        negated: columns[4 * j + 2] == 1,
-        from: from,
-        to: to,
+        operand: pack.columns[4 * j],
+        modulus: pack.columns[4 * j + 1],
+        negated: pack.columns[4 * j + 2] == 1,
+        from: from_at(pack, j),
+        to: end_at(pack, j).min(RANGE_ROOM),
     }
 }

@@ -5,7 +5,7 @@
 ghost use Rattle.std.specs.Prelude.{◌≤◌, length};
 
 use answer::Refusal;
-use pack_rules::{ClauseEnds, Columns, Keywords, RangeEnds, RuleEnds};
+use pack_rules::Pack;
 use pack_verdict::Read;
 use std::io;
 use std::io::Read as _;
@@ -35,20 +35,10 @@ fn print_count(rt: &impl Print, n: usize) -> io::Result<()> {
 }
 
 fn print_reading(rt: &impl Print, pack: &[u8]) -> io::Result<()> {
-    let mut low: RangeEnds = [0; 2048];
-    let mut high: RangeEnds = [0; 2048];
-    let mut columns: Columns = [0; 1280];
-    let mut relations: ClauseEnds = [0; 40];
-    let mut keyword: Keywords = [0; 6];
-    let mut clauses: RuleEnds = [0; 6];
+    let mut pack = pack_rules::empty();
     let read = pack_reader::read_pack(
         pack,
-        &mut low,
-        &mut high,
-        &mut columns,
-        &mut relations,
-        &mut keyword,
-        &mut clauses,
+        &mut pack,
     );
     match read {
         Ok(n) => print_count(rt, n),

@@ -133,7 +133,7 @@ module _ (x : Number) where
           (λ e. omega (arith, counted m, leb-false 2 (count_met (met_by rules x)) e))
   only_told rules s (two a b w u m n l f) =
       rw (ne_eqb (count_met (met_by rules x)) 0 (λ z. omega (arith, counted m)), ne_eqb (count_met (met_by rules x)) 1 (λ z. omega (arith, double)))
-      (pair (sym first_a) (sym second_b))
+      (ap Err (pair (sym first_a) (sym second_b)))
     where
       double : 2 ≤ count_met (met_by rules x)
       double = behind_counted n (omega (arith, first_le m))
@@ -150,7 +150,7 @@ module _ (x : Number) where
           (f (second_met (met_by rules x)) (keyword_at rules (second_met (met_by rules x))) (second_meets rules double))
 
       pair : a ≡ first_met (met_by rules x) → b ≡ second_met (met_by rules x)
-          → Err (OfRules (TwoRulesMet (record { first = a + 1; second = b + 1 }))) ≡ Err (OfRules (TwoRulesMet (pair_of (met_by rules x))))
+          → OfRules (TwoRulesMet (record { first = a + 1; second = b + 1 })) ≡ OfRules (TwoRulesMet (pair_of (met_by rules x)))
       pair p q = rw (p, q)
 
 -- ---- the sign changes no word

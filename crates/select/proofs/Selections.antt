@@ -14,7 +14,8 @@ use Rattle.answer.specs.declared.Refusal.TheVariants.{Rules as OfRules}
 use Rattle.answer.specs.declared.RulesRow.TheVariants.{TwoRulesMet}
 use Rattle.number.specs.declared.Number.{Number}
 use Rattle.pack_rules.specs.Syntax.{Rule}
-use Rattle.pack_rules.specs.Held.{Pack, keyword_of, held_rules}
+use Rattle.pack_rules.specs.declared.Pack.{Pack}
+use Rattle.pack_rules.specs.Held.{keyword_of, held_rules}
 use Rattle.pack_rules.specs.Stretch.{stretch, table_of, rule_at}
 use Rattle.pack_rules.proofs.Stretches.{Sized, length_stretch, held_rules_law}
 use Rattle.meaning.specs.Meaning.{meets}
@@ -94,8 +95,8 @@ module _ (p : Pack) (x : Number) (m : ℕ) (s : Sized p) (h : Met p x m) where
   two_met a b k e f =
       let bs = met_by (held_rules p) x in
       rw (ne_eqb (count_met bs) 0 (λ z. omega (arith, count_is)), ne_eqb (count_met bs) 1 (λ z. omega (arith, count_is)))
-      (pair (omega (arith, first_is (omega arith))) (omega (arith, first_is (omega arith), second_is k)))
+      (ap Err (pair (omega (arith, first_is (omega arith))) (omega (arith, first_is (omega arith), second_is k))))
     where
       pair : a ≡ first_met (met_by (held_rules p) x) + 1 → b ≡ second_met (met_by (held_rules p) x) + 1
-          → Err (OfRules (TwoRulesMet (record { first = a; second = b }))) ≡ Err (OfRules (TwoRulesMet (pair_of (met_by (held_rules p) x))))
+          → OfRules (TwoRulesMet (record { first = a; second = b })) ≡ OfRules (TwoRulesMet (pair_of (met_by (held_rules p) x)))
       pair u v = rw (u, v)

@@ -7,7 +7,7 @@ ghost use Rattle.pack_bare.specs.Bare.{bare_rule};
 ghost use Rattle.select_text.specs.Select.{select_number, select_rules, select_of};
 
 use answer::Keyword;
-use pack_rules::{ClauseEnds, Columns, Keywords, RangeEnds, RuleEnds};
+use pack_rules::Pack;
 use pack_verdict::Read;
 
 // By the pack that is `other:` alone.
@@ -24,25 +24,15 @@ fn select_bare(reading: Result<Number, Refusal>) -> Result<Keyword, Refusal>
 fn select_read(pack: &[u8], reading: Result<Number, Refusal>) -> Result<Keyword, Refusal>
     ensures { result ≡ select_rules (read_pack pack.now) reading }
 {
-    let mut low: RangeEnds = [0; 2048];
-    let mut high: RangeEnds = [0; 2048];
-    let mut columns: Columns = [0; 1280];
-    let mut relations: ClauseEnds = [0; 40];
-    let mut keyword: Keywords = [0; 6];
-    let mut clauses: RuleEnds = [0; 6];
+    let mut pack = pack_rules::empty();
     let read = pack_reader::read_pack(
         pack,
-        &mut low,
-        &mut high,
-        &mut columns,
-        &mut relations,
-        &mut keyword,
-        &mut clauses,
+        &mut pack,
     );
     match read {
         Ok(count) => match reading {
             Ok(x) => select::select_held(
-                &columns, &low, &high, &relations, &keyword, &clauses, count, x,
+                &pack, x,
             ),
             Err(refusal) => Err(refusal),
         },

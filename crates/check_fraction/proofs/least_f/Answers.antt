@@ -1,5 +1,5 @@
 -- `check_fraction::least_f` is a search that asks f only.
-use Rattle.pack_rules.specs.Stretch.{table}
+use Rattle.pack_rules.specs.Stretch.{table, table_of}
 use Rattle.check_laws.specs.Read.{joined_in}
 use mathlib.Core.Path.{◌∙◌}
 use native.Mathlib.Omega.{arith}
@@ -13,5 +13,5 @@ least_from-requires c = λ x h. absurd (omega arith)
 pub returns : goal.returns
 returns c =
     let a = c.args in
-    let T = table a.columns.now a.low.now a.high.now in
+    let T = table_of a.pack.now in
     f_is c.least_from.result (joined_in T a.s) (c.least_from.ensures ∙ f_ready T a.s c.requires.0 c.requires.1)

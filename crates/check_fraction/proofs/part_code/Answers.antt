@@ -1,5 +1,5 @@
 -- `check_fraction::part_code`: no t, or the least over the zeros at the end, by whether f is asked.
-use Rattle.pack_rules.specs.Stretch.{table}
+use Rattle.pack_rules.specs.Stretch.{table, table_of}
 use Rattle.check_laws.specs.Read.{joined_in}
 use Rattle.check_laws.specs.Bounded.{bounded}
 use mathlib.Core.Path.{sym, ◌∙◌}
@@ -12,7 +12,7 @@ use Rattle.check_fraction.proofs.part_code.Goals as goal
 pub returns-then-t-ge-FRACTION_LIMIT : goal.returns-then-t-ge-FRACTION_LIMIT
 returns-then-t-ge-FRACTION_LIMIT c =
     let a = c.args in
-    let T = table a.columns.now a.low.now a.high.now in
+    let T = table_of a.pack.now in
     let x = joined_in T a.s in
     let d = bounded a.b x in
     part_none d c.alone_of-t.result (c.alone_of-t.ensures ∙ bounded_alone a.b x) (search rules)
@@ -20,7 +20,7 @@ returns-then-t-ge-FRACTION_LIMIT c =
 pub least_code-requires : goal.least_code-requires
 least_code-requires c =
     let a = c.args in
-    let T = table a.columns.now a.low.now a.high.now in
+    let T = table_of a.pack.now in
     let x = joined_in T a.s in
     let d = bounded a.b x in
     record {
@@ -31,7 +31,7 @@ least_code-requires c =
 pub asked_code-requires : goal.asked_code-requires
 asked_code-requires c =
     let a = c.args in
-    let T = table a.columns.now a.low.now a.high.now in
+    let T = table_of a.pack.now in
     let x = joined_in T a.s in
     let d = bounded a.b x in
     record {

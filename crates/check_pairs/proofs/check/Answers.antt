@@ -1,7 +1,6 @@
 -- `check_pairs::check`: the profiles and floors are filled in, and the pairs in turn are those of the rules that the pack holds.
 use native.Mathlib.Omega.{arith}
-use Rattle.pack_rules.specs.Held.{lent}
-use Rattle.pack_rules.specs.Stretch.{table}
+use Rattle.pack_rules.specs.Stretch.{table, table_of}
 use Rattle.check_laws.proofs.Flooring.{floored_fresh}
 use Rattle.check_laws.proofs.Holding.{held_is}
 use Rattle.check_laws.proofs.Profiles.{profiled_rules}
@@ -17,7 +16,7 @@ fill-requires c = c.clauses_end-end.ensures.0
 pub fill-requires-2 : goal.fill-requires-2
 fill-requires-2 c =
     let a = c.args in
-    (c.clauses_end-end.ensures.0, floored_fresh (table a.columns.now a.low.now a.high.now) a.relations.now)
+    (c.clauses_end-end.ensures.0, floored_fresh (table_of a.pack.now) a.pack.now.relations)
 
 pub first_pair-requires : goal.first_pair-requires
 first_pair-requires c =
@@ -27,14 +26,14 @@ first_pair-requires c =
     let f = c.fill in
     record {
       n_le_rule_room = (omega (arith, n.ensures), c.fill-2.ensures);
-      profiled_rules = profiled_rules (table a.columns.now a.low.now a.high.now) a.relations.now a.clauses.now n.result e.result f.new.profiles f.ensures e.ensures.1;
+      profiled_rules = profiled_rules (table_of a.pack.now) a.pack.now.relations a.pack.now.clauses n.result e.result f.new.profiles f.ensures e.ensures.1;
     }
 
 pub returns : goal.returns
 returns c =
     let a = c.args in
     let n = c.rule_count-n in
-    held_is (lent a.low.now a.high.now a.columns.now a.relations.now a.keyword.now a.clauses.now a.count) n.result c.first_pair.result
+    held_is (a.pack.now) n.result c.first_pair.result
     (record {
       low = (search rules);
       high = (search rules);

@@ -3,7 +3,6 @@ use mathlib.Core.List.{List}
 use Prim.Native.Nat.{ℕ}
 use Rattle.answer.specs.declared.Keyword.TheVariants.{Other}
 use Rattle.pack_rules.specs.Syntax.{Relation}
-use Rattle.pack_rules.specs.Held.{lent}
 use Rattle.check_laws.specs.Check.{clash_of}
 use Rattle.check_laws.proofs.Holding.{held_by}
 use borrow.Author.Rules.{rules}
@@ -17,7 +16,7 @@ pub returns : goal.returns
 returns c =
     let a = c.args in
     let n = c.rule_count-n in
-    held_by clauses-clash (lent a.low.now a.high.now a.columns.now a.relations.now a.keyword.now a.clauses.now a.count) n.result c.first_pair.result
+    held_by clauses-clash (a.pack.now) n.result c.first_pair.result
     (record {
       low = (search rules);
       high = (search rules);

@@ -1,6 +1,6 @@
 -- `check_search::floors_of` is three searches from 0 on, where 0 is a floor.
 use native.Mathlib.Omega.{arith}
-use Rattle.pack_rules.specs.Stretch.{table}
+use Rattle.pack_rules.specs.Stretch.{table, table_of}
 use Rattle.check_laws.specs.Read.{joined_in}
 use Rattle.check_laws.specs.declared.Floors.{Floors}
 use Rattle.check_laws.proofs.Flooring.{found_integer, found_tail, under_found}
@@ -19,7 +19,7 @@ alone_of-tail-requires c = (c.requires.0, c.requires.1, λ x h. absurd (omega ar
 pub returns : goal.returns
 returns c =
     let a = c.args in
-    let T = table a.columns.now a.low.now a.high.now in
+    let T = table_of a.pack.now in
     let d = joined_in T a.s in
     let w = c.integer_of-whole in
     let p = c.integer_of-part in

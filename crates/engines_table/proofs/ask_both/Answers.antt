@@ -1,9 +1,8 @@
 -- `engines_table::ask_both` has two equal answers, by the contracts of the two engines.
-use Rattle.pack_rules.specs.Held.{lent}
 use Rattle.engines_table.proofs.Agree.{engines_agree}
 use Rattle.engines_table.proofs.ask_both.Goals as goal
 
 pub returns : goal.returns
 returns c =
     let a = c.args in
-    (engines_agree (lent a.low.now a.high.now a.columns.now a.relations.now a.keyword.now a.clauses.now a.count) c.check-fast.result c.check-plain.result c.check-fast.ensures c.check-plain.ensures, c.check-plain.ensures)
+    (engines_agree (a.pack.now) c.check-fast.result c.check-plain.result c.check-fast.ensures c.check-plain.ensures, c.check-plain.ensures)

@@ -8,14 +8,14 @@ use Rattle.meaning.proofs.in_ranges.Goals as goal
 pub returns-then-in_range : goal.returns-then-in_range
 returns-then-in_range c =
     let a = c.args in
-    sym (sym c.loop-k.invariant ∙ any_found (in_range a.x) (range_at a.low.now a.high.now) c.loop-k.k a.to c.loop-k-test.true (sym c.in_range.ensures ∙ c.if-in_range.true))
+    sym (sym c.loop-k.invariant ∙ any_found (in_range a.x) (range_at a.pack.now.low a.pack.now.high) c.loop-k.k a.to c.loop-k-test.true (sym c.in_range.ensures ∙ c.if-in_range.true))
 
 pub loop-k-preserved : goal.loop-k-preserved
 loop-k-preserved c =
     let a = c.args in
-    sym (any_next (in_range a.x) (range_at a.low.now a.high.now) c.loop-k.k a.to c.loop-k-test.true (sym c.in_range.ensures ∙ c.if-in_range.false)) ∙ c.loop-k.invariant
+    sym (any_next (in_range a.x) (range_at a.pack.now.low a.pack.now.high) c.loop-k.k a.to c.loop-k-test.true (sym c.in_range.ensures ∙ c.if-in_range.false)) ∙ c.loop-k.invariant
 
 pub returns : goal.returns
 returns c =
     let a = c.args in
-    sym (sym c.loop-k.invariant ∙ any_none (in_range a.x) (range_at a.low.now a.high.now) c.loop-k.k a.to c.loop-k-test.false)
+    sym (sym c.loop-k.invariant ∙ any_none (in_range a.x) (range_at a.pack.now.low a.pack.now.high) c.loop-k.k a.to c.loop-k-test.false)

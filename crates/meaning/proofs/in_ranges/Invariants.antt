@@ -7,7 +7,7 @@ use Rattle.meaning.specs.Meaning.{in_range}
 use Rattle.meaning.proofs.in_ranges.Given as goal
 
 abbrev pub invariant-loop-k : goal.invariant-loop-k
-invariant-loop-k l = any (in_range l.x) (ranges_in l.low l.high l.k l.to) ≡ any (in_range l.x) (ranges_in l.low l.high l.from l.to)
+invariant-loop-k l = any (in_range l.x) (ranges_in l.pack.low l.pack.high l.k l.to) ≡ any (in_range l.x) (ranges_in l.pack.low l.pack.high l.from l.to)
 
 abbrev pub decreases-loop-k : goal.decreases-loop-k
 decreases-loop-k l = l.to - l.k

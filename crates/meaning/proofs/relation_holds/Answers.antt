@@ -8,12 +8,12 @@ pub returns-then-not-is_whole : goal.returns-then-not-is_whole
 returns-then-not-is_whole c =
     let a = c.args in
     let w = c.is_whole in
-    not_whole (relation_by a.low.now a.high.now a.s) a.x (sym w.ensures ∙ not-true w.result c.if-not-is_whole.true-raw)
+    not_whole (relation_by a.pack.now.low a.pack.now.high a.s) a.x (sym w.ensures ∙ not-true w.result c.if-not-is_whole.true-raw)
 
 pub returns-then-s : goal.returns-then-s
 returns-then-s c =
     let a = c.args in
-    let r = relation_by a.low.now a.high.now a.s in
+    let r = relation_by a.pack.now.low a.pack.now.high a.s in
     let w = c.is_whole in
     let q = c.in_ranges-listed in
     let k = listed r a.x q.result (sym w.ensures ∙ not-false w.result c.if-not-is_whole.false-raw) (q.ensures ∙ rw (c.remainder-value.ensures, c.operand_value.ensures, c.wide.ensures)) in
@@ -22,7 +22,7 @@ returns-then-s c =
 pub returns : goal.returns
 returns c =
     let a = c.args in
-    let r = relation_by a.low.now a.high.now a.s in
+    let r = relation_by a.pack.now.low a.pack.now.high a.s in
     let w = c.is_whole in
     let q = c.in_ranges-listed in
     let k = listed r a.x q.result (sym w.ensures ∙ not-false w.result c.if-not-is_whole.false-raw) (q.ensures ∙ rw (c.remainder-value.ensures, c.operand_value.ensures, c.wide.ensures)) in

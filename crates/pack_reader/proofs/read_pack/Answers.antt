@@ -29,7 +29,7 @@ loop-at-preserved c =
     let m = c.piece_len-m in
     let t = c.token_at-t in
     let g = c.step_after-g in
-    takes {first = arrays_of c.args.low.now c.args.high.now c.args.columns.now c.args.relations.now c.args.keyword.now c.args.clauses.now} l.invariant t.result.now m.result c.skip_white-at-in-loop-at.result t.ensures m.ensures c.loop-at-test.true c.skip_white-at-in-loop-at.ensures
+    takes {first = arrays_of c.args.pack.now.low c.args.pack.now.high c.args.pack.now.columns c.args.pack.now.relations c.args.pack.now.keyword c.args.pack.now.clauses} l.invariant t.result.now m.result c.skip_white-at-in-loop-at.result t.ensures m.ensures c.loop-at-test.true c.skip_white-at-in-loop-at.ensures
     c.less_one.ensures g.result g.ensures
     c.put_values.ensures
     c.put_values-in-loop-at.ensures
@@ -42,8 +42,8 @@ loop-at-preserved c =
 pub returns : goal.returns
 returns c =
     let l = c.loop-at in
-    let b = arrays_of c.args.low.now c.args.high.now c.args.columns.now c.args.relations.now c.args.keyword.now c.args.clauses.now in
-    told b (arrays_of l.low l.high l.columns l.relations l.keyword l.clauses) l.w c.args.text.now
+    let b = arrays_of c.args.pack.now.low c.args.pack.now.high c.args.pack.now.columns c.args.pack.now.relations c.args.pack.now.keyword c.args.pack.now.clauses in
+    told b (arrays_of l.pack.low l.pack.high l.pack.columns l.pack.relations l.pack.keyword l.pack.clauses) l.w c.args.text.now
     (record {
       low = search rules;
       high = search rules;

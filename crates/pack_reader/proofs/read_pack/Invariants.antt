@@ -7,7 +7,7 @@ use Rattle.pack_reader.proofs.read_pack.Given as goal
 
 abbrev pub invariant-loop-at : goal.invariant-loop-at
 invariant-loop-at l =
-    Stands l.s l.end (arrays_of l.initial.low l.initial.high l.initial.columns l.initial.relations l.initial.keyword l.initial.clauses) l.at l.w (arrays_of l.low l.high l.columns l.relations l.keyword l.clauses)
+    Stands l.s l.end (arrays_of l.initial.pack.low l.initial.pack.high l.initial.pack.columns l.initial.pack.relations l.initial.pack.keyword l.initial.pack.clauses) l.at l.w (arrays_of l.pack.low l.pack.high l.pack.columns l.pack.relations l.pack.keyword l.pack.clauses)
 
 abbrev pub decreases-loop-at : goal.decreases-loop-at
 decreases-loop-at l =

@@ -1,11 +1,14 @@
 -- `select::meets_held` asks the rule at a place within the arrays; past them there is none.
-use native.Mathlib.Omega.{arith}
-use Rattle.pack_rules.specs.Stretch.{table}
+use mathlib.Core.Path.{◌∙◌}
+use Prim.Native.Nat.{◌≤◌}
+use lib.ListN.{length}
+use borrow.Author.Rules.{rules}
+use Rattle.pack_rules.specs.Stretch.{table_of}
 use Rattle.meaning.proofs.Meanings.{past_none}
 use Rattle.select.proofs.meets_held.Goals as goal
 
-pub returns : goal.returns
-returns c =
+pub returns-else-is_some : goal.returns-else-is_some
+returns-else-is_some c =
     let a = c.args in
-    past_none (table a.columns.now a.low.now a.high.now) a.relations.now a.clauses.now a.x a.j
-    (omega (arith, c.room.ensures))
+    let h : length a.pack.now.clauses ≤ a.j = search rules in
+    c.if-is_some.false ∙ past_none (table_of a.pack.now) a.pack.now.relations a.pack.now.clauses a.x a.j h

@@ -2,7 +2,7 @@
 use Rattle.std.specs.Prelude.{Ok}
 use native.Mathlib.Omega.{arith}
 use mathlib.Core.Path.{ap, ◌∙◌}
-use Rattle.pack_rules.specs.Held.{Pack, lent}
+use Rattle.pack_rules.specs.declared.Pack.{Pack}
 use Rattle.pack_rules.proofs.Stretches.{Sized}
 use Rattle.select.proofs.Selections.{Met, met, first_small, none_met, one_met, second_small, two_met}
 use borrow.Author.Rules.{rules}
@@ -13,7 +13,7 @@ use Rattle.select.proofs.select_held.Goals.{After-met_mask-m}
 abbrev pack : (m : After-met_mask-m) → Pack
 pack m =
     let a = m.args in
-    lent a.low.now a.high.now a.columns.now a.relations.now a.keyword.now a.clauses.now a.count
+    a.pack.now
 
 declared : (m : After-met_mask-m) → Sized (pack m)
 declared m =

@@ -5,7 +5,7 @@ use borrow.Author.Rules.{rules}
 use Rattle.check_clauses.proofs.ends.clauses_start.Goals as goal
 
 pub returns-then-p-eq0 : goal.returns-then-p-eq0
-returns-then-p-eq0 c = start_none c.args.ends.now c.args.p (search rules)
+returns-then-p-eq0 c = start_none c.args.table.now.ends c.args.p (search rules)
 
 pub returns : goal.returns
-returns c = start_some c.args.ends.now c.args.p _ (search rules) refl
+returns c = start_some c.args.table.now.ends c.args.p _ (search rules) refl

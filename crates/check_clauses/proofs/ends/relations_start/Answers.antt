@@ -5,7 +5,7 @@ use borrow.Author.Rules.{rules}
 use Rattle.check_clauses.proofs.ends.relations_start.Goals as goal
 
 pub returns-then-k-eq0 : goal.returns-then-k-eq0
-returns-then-k-eq0 c = start_none c.args.ends.now c.args.k (search rules)
+returns-then-k-eq0 c = start_none c.args.table.now.ends c.args.k (search rules)
 
 pub returns : goal.returns
-returns c = start_some c.args.ends.now c.args.k _ (search rules) refl
+returns c = start_some c.args.table.now.ends c.args.k _ (search rules) refl

@@ -4,18 +4,18 @@ use borrow.Author.Rules.{rules}
 use Rattle.check_clauses.proofs.floors.is_long.Goals as goal
 
 pub returns-then-to-from : goal.returns-then-to-from
-returns-then-to-from c = long_none c.args.columns.now 24 c.args.from c.args.to (search rules)
+returns-then-to-from c = long_none c.args.pack.now.columns 24 c.args.from c.args.to (search rules)
 
 pub returns-then-end-start : goal.returns-then-end-start
 returns-then-end-start c =
     let a = c.args in
     let start = c.from_at-start in
     let end = c.from_at-end in
-    long_less a.columns.now 24 a.from a.to start.result end.result (search rules) start.ensures end.ensures (search rules)
+    long_less a.pack.now.columns 24 a.from a.to start.result end.result (search rules) start.ensures end.ensures (search rules)
 
 pub returns : goal.returns
 returns c =
     let a = c.args in
     let start = c.from_at-start in
     let end = c.from_at-end in
-    long_some a.columns.now 24 a.from a.to start.result end.result (search rules) start.ensures end.ensures
+    long_some a.pack.now.columns 24 a.from a.to start.result end.result (search rules) start.ensures end.ensures

@@ -8,10 +8,10 @@ use Rattle.check_digits.proofs.Rounds.{each_digit, gone_none, gone_all, gone_end
 use Rattle.check_digits.proofs.digits.all_spared.Goals as goal
 
 pub loop-k-init : goal.loop-k-init
-loop-k-init c = let a = c.args in gone_none a.low.now a.high.now a.from (λ (d : ℕ). all (spares a.m d)) a.to 1023 each_digit
+loop-k-init c = let a = c.args in gone_none a.pack.now.low a.pack.now.high a.from (λ (d : ℕ). all (spares a.m d)) a.to 1023 each_digit
 
 pub loop-k-preserved : goal.loop-k-preserved
-loop-k-preserved c = let a = c.args in let l = c.loop-k in gone_all a.low.now a.high.now a.from a.m a.to l.k l.mask c.spared-mask.result _ c.loop-k-test.true l.invariant c.spared-mask.ensures.0 refl
+loop-k-preserved c = let a = c.args in let l = c.loop-k in gone_all a.pack.now.low a.pack.now.high a.from a.m a.to l.k l.mask c.spared-mask.result _ c.loop-k-test.true l.invariant c.spared-mask.ensures.0 refl
 
 pub returns : goal.returns
-returns c = let a = c.args in let l = c.loop-k in let e = gone_ended a.low.now a.high.now a.from (λ (d : ℕ). all (spares a.m d)) a.to l.k l.mask c.loop-k-test.false l.invariant in (e, values_lt _ 10 l.mask e)
+returns c = let a = c.args in let l = c.loop-k in let e = gone_ended a.pack.now.low a.pack.now.high a.from (λ (d : ℕ). all (spares a.m d)) a.to l.k l.mask c.loop-k-test.false l.invariant in (e, values_lt _ 10 l.mask e)

@@ -6,7 +6,7 @@ use Rattle.check_digits.proofs.Rounds.{Gone}
 use Rattle.check_digits.proofs.digits.all_spared.Given as goal
 
 abbrev pub invariant-loop-k : goal.invariant-loop-k
-invariant-loop-k l = Gone l.low l.high l.from (λ (d : ℕ). all (spares l.m d)) l.to l.k l.mask
+invariant-loop-k l = Gone l.pack.low l.pack.high l.from (λ (d : ℕ). all (spares l.m d)) l.to l.k l.mask
 
 abbrev pub decreases-loop-k : goal.decreases-loop-k
 decreases-loop-k l = l.to - l.k

@@ -8,10 +8,10 @@ use Rattle.check_digits.proofs.Rounds.{no_digit, gone_none, gone_any, gone_ended
 use Rattle.check_digits.proofs.digits.any_reached.Goals as goal
 
 pub loop-k-init : goal.loop-k-init
-loop-k-init c = let a = c.args in gone_none a.low.now a.high.now a.from (λ (d : ℕ). any (reaches d)) a.to 0 no_digit
+loop-k-init c = let a = c.args in gone_none a.pack.now.low a.pack.now.high a.from (λ (d : ℕ). any (reaches d)) a.to 0 no_digit
 
 pub loop-k-preserved : goal.loop-k-preserved
-loop-k-preserved c = let a = c.args in let l = c.loop-k in gone_any a.low.now a.high.now a.from a.to l.k l.mask c.reached-mask.result _ c.loop-k-test.true l.invariant c.reached-mask.ensures.0 refl
+loop-k-preserved c = let a = c.args in let l = c.loop-k in gone_any a.pack.now.low a.pack.now.high a.from a.to l.k l.mask c.reached-mask.result _ c.loop-k-test.true l.invariant c.reached-mask.ensures.0 refl
 
 pub returns : goal.returns
-returns c = let a = c.args in let l = c.loop-k in let e = gone_ended a.low.now a.high.now a.from (λ (d : ℕ). any (reaches d)) a.to l.k l.mask c.loop-k-test.false l.invariant in (e, values_lt _ 10 l.mask e)
+returns c = let a = c.args in let l = c.loop-k in let e = gone_ended a.pack.now.low a.pack.now.high a.from (λ (d : ℕ). any (reaches d)) a.to l.k l.mask c.loop-k-test.false l.invariant in (e, values_lt _ 10 l.mask e)

@@ -6,7 +6,7 @@ use Rattle.check_digits.proofs.Rounds.{Gone}
 use Rattle.check_digits.proofs.digits.any_reached.Given as goal
 
 abbrev pub invariant-loop-k : goal.invariant-loop-k
-invariant-loop-k l = Gone l.low l.high l.from (λ (d : ℕ). any (reaches d)) l.to l.k l.mask
+invariant-loop-k l = Gone l.pack.low l.pack.high l.from (λ (d : ℕ). any (reaches d)) l.to l.k l.mask
 
 abbrev pub decreases-loop-k : goal.decreases-loop-k
 decreases-loop-k l = l.to - l.k

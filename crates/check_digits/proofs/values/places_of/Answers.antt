@@ -5,4 +5,4 @@ use Rattle.check_digits.proofs.Filling.{values_lt}
 use Rattle.check_digits.proofs.values.places_of.Goals as goal
 
 pub returns : goal.returns
-returns c = let a = c.args in (c.values_of.ensures, values_lt (test (relation_by a.low.now a.high.now a.s)) 10 c.values_of.result c.values_of.ensures)
+returns c = let a = c.args in (c.values_of.ensures, values_lt (test (relation_by a.pack.now.low a.pack.now.high a.s)) 10 c.values_of.result c.values_of.ensures)

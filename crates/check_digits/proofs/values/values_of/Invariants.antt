@@ -6,7 +6,7 @@ use Rattle.check_laws.specs.Fast.{test}
 use Rattle.check_digits.proofs.values.values_of.Given as goal
 
 abbrev pub invariant-loop-x : goal.invariant-loop-x
-invariant-loop-x l = (l.x ≤ l.n) × SoFar (test (relation_by l.low l.high l.s)) l.x l.mask l.place
+invariant-loop-x l = (l.x ≤ l.n) × SoFar (test (relation_by l.pack.low l.pack.high l.s)) l.x l.mask l.place
 
 abbrev pub decreases-loop-x : goal.decreases-loop-x
 decreases-loop-x l = l.n - l.x

@@ -6,7 +6,7 @@ use lib.ListN.{get_or}
 use Rattle.check_least.proofs.search.asks_remainder.Given as goal
 
 abbrev pub invariant-loop-j : goal.invariant-loop-j
-invariant-loop-j l = (k : ℕ) → k < l.j → get_or l.asked k false ≡ false
+invariant-loop-j l = (k : ℕ) → k < l.j → get_or l.marks.asked k false ≡ false
 
 abbrev pub decreases-loop-j : goal.decreases-loop-j
 decreases-loop-j l = 7 - l.j

@@ -1,5 +1,5 @@
 -- `check_least::search::in_table`: the table stands, or no number passes its levels, or each number is tried.
-use Rattle.pack_rules.specs.Stretch.{table}
+use Rattle.pack_rules.specs.Stretch.{table, table_of}
 use Rattle.check_laws.specs.Read.{joined_in}
 use Rattle.check_least.proofs.Searching.{least_empty, laid_fresh}
 use Rattle.check_least.proofs.search.in_table.Goals as goal
@@ -36,7 +36,7 @@ pub returns-in-Empty : goal.returns-in-Empty
 returns-in-Empty c =
     let a = c.args in
     let p = c.requires in
-    let T = table a.columns.now a.low.now a.high.now in
+    let T = table_of a.pack.now in
     let c' = joined_in T a.s in
     least_empty a.q c' p.s_value a.lo a.hi p.fit.2 (c.build-b.ensures.empty c.in-Empty.is)
 

@@ -4,7 +4,7 @@ use lib.ListN.{length-replicate}
 use Rattle.check_runs.proofs.Keeping.{gathered_listed}
 use Prim.Native.Nat.{ℕ}
 use mathlib.Core.Path.{◌∙◌}
-use Rattle.pack_rules.specs.Stretch.{table}
+use Rattle.pack_rules.specs.Stretch.{table, table_of}
 use Rattle.check_laws.specs.Read.{joined_in}
 use Rattle.check_laws.specs.Levels.{own, window}
 use Rattle.check_laws.proofs.Searched.{room_le}
@@ -19,25 +19,25 @@ pub list_level-count-requires : goal.list_level-count-requires
 list_level-count-requires c = (omega (arith, c.size_of.ensures, c.requires.5), length-replicate {A = ℕ} 16 0)
 
 pub loop-p-init : goal.loop-p-init
-loop-p-init c = let a = c.args in let T = table a.columns.now a.low.now a.high.now in (passed_start (own a.q (joined_in T a.s) window) a.lo a.hi a.lo, kept_fresh T a.s a.q window a.lo)
+loop-p-init c = let a = c.args in let T = table_of a.pack.now in (passed_start (own a.q (joined_in T a.s) window) a.lo a.hi a.lo, kept_fresh T a.s a.q window a.lo)
 
 pub clause_run-run-requires : goal.clause_run-run-requires
-clause_run-run-requires c = let a = c.args in let T = table a.columns.now a.low.now a.high.now in let p = c.requires in let i = c.loop-p.invariant in let x = joined_in T a.s in
+clause_run-run-requires c = let a = c.args in let T = table_of a.pack.now in let p = c.requires in let i = c.loop-p.invariant in let x = joined_in T a.s in
     record {
       fit = p.0;
       room = room_le a.q c.loop-p.p a.hi p.1 (omega (arith, c.loop-p-test.true));
-      to_le_relation_room = (p.3, p.4, p.5, gathered_listed T a.s a.q window a.tiers.now c.list_level-count.new.list c.list_level-count.result c.size_of.result (omega arith) p.6 c.size_of.ensures (omega (arith, c.size_of.ensures, p.5)) c.list_level-count.ensures);
+      to_le_relation_room = (p.3, p.4, p.5, gathered_listed T a.s a.q window a.marks.now.tiers c.list_level-count.new.list c.list_level-count.result c.size_of.result (omega arith) p.6 c.size_of.ensures (omega (arith, c.size_of.ensures, p.5)) c.list_level-count.ensures);
       kept = i.1;
     }
 
 pub returns-then-run : goal.returns-then-run
-returns-then-run c = let a = c.args in let T = table a.columns.now a.low.now a.high.now in let p = c.requires in let i = c.loop-p.invariant in let x = joined_in T a.s in let r = c.clause_run-run.ensures.alike in passed_hit (own a.q x window) a.lo a.hi c.loop-p.p i.0 c.loop-p-test.true (r.same c.loop-p.p (omega arith) r.some ∙ c.if-run.true)
+returns-then-run c = let a = c.args in let T = table_of a.pack.now in let p = c.requires in let i = c.loop-p.invariant in let x = joined_in T a.s in let r = c.clause_run-run.ensures.alike in passed_hit (own a.q x window) a.lo a.hi c.loop-p.p i.0 c.loop-p-test.true (r.same c.loop-p.p (omega arith) r.some ∙ c.if-run.true)
 
 pub loop-p-smaller : goal.loop-p-smaller
 loop-p-smaller c = omega (arith, c.clause_run-run.ensures.alike.some, c.loop-p-test.true)
 
 pub loop-p-preserved : goal.loop-p-preserved
-loop-p-preserved c = let a = c.args in let T = table a.columns.now a.low.now a.high.now in let p = c.requires in let i = c.loop-p.invariant in let x = joined_in T a.s in let r = c.clause_run-run.ensures in (passed_more (own a.q x window) a.lo a.hi c.loop-p.p i.0 c.clause_run-run.result.stop (omega (arith, r.alike.some)) (λ x b e. r.alike.same x b e ∙ c.if-run.false), λ k h x b. r.kept_2 k h x (omega (arith, r.alike.some)))
+loop-p-preserved c = let a = c.args in let T = table_of a.pack.now in let p = c.requires in let i = c.loop-p.invariant in let x = joined_in T a.s in let r = c.clause_run-run.ensures in (passed_more (own a.q x window) a.lo a.hi c.loop-p.p i.0 c.clause_run-run.result.stop (omega (arith, r.alike.some)) (λ x b e. r.alike.same x b e ∙ c.if-run.false), λ k h x b. r.kept_2 k h x (omega (arith, r.alike.some)))
 
 pub returns : goal.returns
-returns c = let a = c.args in let T = table a.columns.now a.low.now a.high.now in let p = c.requires in let i = c.loop-p.invariant in let x = joined_in T a.s in passed_end (own a.q x window) a.lo a.hi c.loop-p.p i.0 p.2 (omega (arith, c.loop-p-test.false))
+returns c = let a = c.args in let T = table_of a.pack.now in let p = c.requires in let i = c.loop-p.invariant in let x = joined_in T a.s in passed_end (own a.q x window) a.lo a.hi c.loop-p.p i.0 p.2 (omega (arith, c.loop-p-test.false))

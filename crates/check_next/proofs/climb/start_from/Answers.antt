@@ -6,7 +6,7 @@ use borrow.Author.Rules.{rules}
 use Rattle.check_next.proofs.climb.start_from.Goals as goal
 
 pub returns-then-to-k : goal.returns-then-to-k
-returns-then-to-k c = let a = c.args in first_end a.starts.now a.ends.now a.k a.to a.m (omega (arith, c.if-to-k.true))
+returns-then-to-k c = let a = c.args in first_end a.table.now.starts a.table.now.ends a.k a.to a.m (omega (arith, c.if-to-k.true))
 
 pub returns : goal.returns
-returns c = let a = c.args in (search rules) ∙ first_at a.starts.now a.ends.now a.k a.to a.m (omega (arith, c.if-to-k.false))
+returns c = let a = c.args in (search rules) ∙ first_at a.table.now.starts a.table.now.ends a.k a.to a.m (omega (arith, c.if-to-k.false))

@@ -6,7 +6,7 @@ use Rattle.check_next.specs.Table.{segments_in}
 use Rattle.check_next.proofs.climb.up_to.Given as goal
 
 abbrev pub invariant-loop-k : goal.invariant-loop-k
-invariant-loop-k l = up_to (segments_in l.starts l.ends l.k l.to) l.m l.r l.z ≡ up_to (segments_in l.starts l.ends l.from l.to) l.m l.r l.z
+invariant-loop-k l = up_to (segments_in l.table.starts l.table.ends l.k l.to) l.m l.r l.z ≡ up_to (segments_in l.table.starts l.table.ends l.from l.to) l.m l.r l.z
 
 abbrev pub decreases-loop-k : goal.decreases-loop-k
 decreases-loop-k l = l.to - l.k

@@ -1,6 +1,6 @@
 -- `check_pairs::joined::pair_spot` is that of the two rules' clauses.
 use native.Mathlib.Omega.{arith}
-use Rattle.pack_rules.specs.Stretch.{table}
+use Rattle.pack_rules.specs.Stretch.{table, table_of}
 use Rattle.check_laws.proofs.Pairing.{pair_is}
 use Rattle.check_pairs.proofs.joined.pair_spot.Goals as goal
 
@@ -17,8 +17,8 @@ both_spot-requires c =
 pub returns : goal.returns
 returns c =
     let a = c.args in
-    let T = table a.columns.now a.low.now a.high.now in (
-      pair_is T a.relations.now a.clauses.now _ c.clauses_start-from.result c.clauses_stop-to.result c.clauses_start-start.result c.clauses_stop-stop.result a.p a.q
+    let T = table_of a.pack.now in (
+      pair_is T a.pack.now.relations a.pack.now.clauses _ c.clauses_start-from.result c.clauses_stop-to.result c.clauses_start-start.result c.clauses_stop-stop.result a.p a.q
           c.clauses_start-from.ensures c.clauses_stop-to.ensures c.clauses_start-start.ensures c.clauses_stop-stop.ensures c.both_spot.ensures.0,
       c.both_spot.ensures.1,
     )

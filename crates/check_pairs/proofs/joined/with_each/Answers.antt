@@ -1,7 +1,7 @@
 -- `check_pairs::joined::with_each` takes the earliest. Invariant: the best so far with that of the pairs left is that of all.
 use native.Mathlib.Omega.{arith}
 use mathlib.Core.Path.{refl, sym, ◌∙◌}
-use Rattle.pack_rules.specs.Stretch.{table}
+use Rattle.pack_rules.specs.Stretch.{table, table_of}
 use Rattle.check_laws.specs.Spots.{spot_rank}
 use Rattle.check_laws.proofs.Pairing.{each_more, each_end}
 use borrow.Author.Rules.{rules}
@@ -24,11 +24,11 @@ earlier-best-requires c = (c.loop-l.invariant.1, c.joined_spot-one.ensures.1)
 pub loop-l-preserved : goal.loop-l-preserved
 loop-l-preserved c =
     let a = c.args in
-    let T = table a.columns.now a.low.now a.high.now in
-    (sym (each_more T a.relations.now a.k a.to (spot_rank c.loop-l.best) (spot_rank c.joined_spot-one.result) (spot_rank c.earlier-best.result) c.loop-l.l (search rules) c.joined_spot-one.ensures.0 c.earlier-best.ensures.0) ∙ c.loop-l.invariant.0, c.earlier-best.ensures.1)
+    let T = table_of a.pack.now in
+    (sym (each_more T a.pack.now.relations a.k a.to (spot_rank c.loop-l.best) (spot_rank c.joined_spot-one.result) (spot_rank c.earlier-best.result) c.loop-l.l (search rules) c.joined_spot-one.ensures.0 c.earlier-best.ensures.0) ∙ c.loop-l.invariant.0, c.earlier-best.ensures.1)
 
 pub returns : goal.returns
 returns c =
     let a = c.args in
-    let T = table a.columns.now a.low.now a.high.now in
-    (sym (each_end T a.relations.now a.k a.to (spot_rank c.loop-l.best) c.loop-l.l (search rules) c.loop-l.invariant.1.ranked) ∙ c.loop-l.invariant.0, c.loop-l.invariant.1)
+    let T = table_of a.pack.now in
+    (sym (each_end T a.pack.now.relations a.k a.to (spot_rank c.loop-l.best) c.loop-l.l (search rules) c.loop-l.invariant.1.ranked) ∙ c.loop-l.invariant.0, c.loop-l.invariant.1)

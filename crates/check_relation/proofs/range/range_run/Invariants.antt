@@ -4,7 +4,7 @@ use Rattle.check_relation.proofs.Sweeping.{Sweep}
 use Rattle.check_relation.proofs.range.range_run.Given as goal
 
 abbrev pub invariant-loop-k : goal.invariant-loop-k
-invariant-loop-k l = Sweep l.low l.high l.from l.to l.y l.next l.k
+invariant-loop-k l = Sweep l.pack.low l.pack.high l.from l.to l.y l.next l.k
 
 abbrev pub decreases-loop-k : goal.decreases-loop-k
 decreases-loop-k l = l.to - l.k

@@ -14,4 +14,4 @@ pub returns : goal.returns
 returns c =
     let a = c.args in
     let l = c.listed_run-r in
-    listed_test (relation_by a.low.now a.high.now a.s) a.x c.remainder-y.result l.result.stop l.result.says (rw c.wide.ensures at c.remainder-y.ensures) l.ensures.alike
+    listed_test (relation_by a.pack.now.low a.pack.now.high a.s) a.x c.remainder-y.result l.result.stop l.result.says (rw c.wide.ensures at c.remainder-y.ensures) l.ensures.alike

@@ -13,7 +13,7 @@ pos n h = omega arith
 pub asked_factor-k-requires : goal.asked_factor-k-requires
 asked_factor-k-requires c =
     let a = c.args in
-    let r = relation_by a.low.now a.high.now a.s in
+    let r = relation_by a.pack.now.low a.pack.now.high a.s in
     let p = c.requires in
     (p.fit, told_asked a.q r a.level p.to_le_range_room.1 p.to_le_range_room.2)
 
@@ -32,7 +32,7 @@ listed_run-r-requires c =
 pub upwards_by-requires : goal.upwards_by-requires
 upwards_by-requires c =
     let a = c.args in
-    let r = relation_by a.low.now a.high.now a.s in
+    let r = relation_by a.pack.now.low a.pack.now.high a.s in
     let p = c.requires in
     let f = c.asked_factor-k in
     let n = told_asked a.q r a.level p.to_le_range_room.1 p.to_le_range_room.2 in
@@ -41,7 +41,7 @@ upwards_by-requires c =
 pub returns-clause-alike : goal.returns-clause-alike
 returns-clause-alike c =
     let a = c.args in
-    let r = relation_by a.low.now a.high.now a.s in
+    let r = relation_by a.pack.now.low a.pack.now.high a.s in
     let p = c.requires in
     let f = c.asked_factor-k in
     let l = c.listed_run-r in
@@ -53,7 +53,7 @@ returns-clause-alike c =
 pub returns-clause-stop_le_far : goal.returns-clause-stop_le_far
 returns-clause-stop_le_far c =
     let a = c.args in
-    let r = relation_by a.low.now a.high.now a.s in
+    let r = relation_by a.pack.now.low a.pack.now.high a.s in
     let p = c.requires in
     let f = c.asked_factor-k in
     let l = c.listed_run-r in

@@ -8,7 +8,7 @@ use Rattle.check_relation.proofs.relation.passes_of.Goals as goal
 pub returns-then-k-eq0 : goal.returns-then-k-eq0
 returns-then-k-eq0 c =
     let a = c.args in
-    passes_unasked a.q (relation_by a.low.now a.high.now a.s) c.factor_of-k.result c.factor_of-k.ensures a.x c.if-k-eq0.true
+    passes_unasked a.q (relation_by a.pack.now.low a.pack.now.high a.s) c.factor_of-k.result c.factor_of-k.ensures a.x c.if-k-eq0.true
 
 pub overflow_mul-x : goal.overflow_mul-x
 overflow_mul-x c =
@@ -23,4 +23,4 @@ holds_of-requires c =
 pub returns : goal.returns
 returns c =
     let a = c.args in
-    passes_asked a.q (relation_by a.low.now a.high.now a.s) c.factor_of-k.result c.factor_of-k.ensures a.x c.holds_of.result c.if-k-eq0.false c.holds_of.ensures
+    passes_asked a.q (relation_by a.pack.now.low a.pack.now.high a.s) c.factor_of-k.result c.factor_of-k.ensures a.x c.holds_of.result c.if-k-eq0.false c.holds_of.ensures

@@ -2,7 +2,7 @@
 use native.Mathlib.Omega.{arith}
 use Prim.Native.Nat.{ℕ}
 use mathlib.Core.Path.{sym, ap, subst, ◌∙◌}
-use Rattle.pack_rules.specs.Stretch.{single_at, relation_by, table, relation_at}
+use Rattle.pack_rules.specs.Stretch.{single_at, relation_by, table_of, relation_at}
 use Rattle.pack_rules.specs.declared.Single.{Single}
 use Rattle.check_laws.specs.Seek.{Alike}
 use Rattle.check_laws.specs.Levels.{own_one}
@@ -15,7 +15,7 @@ returns-then-p-end c =
     let a = c.args in
     let p = c.requires in
     record {
-      alike = kept_there (table a.columns.now a.low.now a.high.now) a.s a.q a.level a.p a.says.now a.stop.now a.k p.kept p.to_le_relation_room.2 c.if-p-end.true;
+      alike = kept_there (table_of a.pack.now) a.s a.q a.level a.p a.runs.now.says a.runs.now.stop a.k p.kept p.to_le_relation_room.2 c.if-p-end.true;
       kept_2 = p.kept;
     }
 
@@ -26,22 +26,22 @@ pub own_run-r-requires : goal.own_run-r-requires
 own_run-r-requires c =
     let a = c.args in
     let p = c.requires in
-    let T = table a.columns.now a.low.now a.high.now in
+    let T = table_of a.pack.now in
     let e = c.single_at.ensures in
     record {
       fit = p.fit;
       room = p.room;
-      to_le_range_room = (e.to_le_range_room, p.to_le_relation_room.4, p.to_le_relation_room.5 ∙ ap (λ (j : ℕ). tier a.q (relation_at T j)) (sym c.place_of.ensures.value) ∙ ap (λ (s : Single). tier a.q (relation_by a.low.now a.high.now s)) (sym e.value));
+      to_le_range_room = (e.to_le_range_room, p.to_le_relation_room.4, p.to_le_relation_room.5 ∙ ap (λ (j : ℕ). tier a.q (relation_at T j)) (sym c.place_of.ensures.value) ∙ ap (λ (s : Single). tier a.q (relation_by a.pack.now.low a.pack.now.high s)) (sym e.value));
     }
 
 pub returns : goal.returns
 returns c =
     let a = c.args in
-    let T = table a.columns.now a.low.now a.high.now in
+    let T = table_of a.pack.now in
     let r = c.own_run-r.result in
-    let e = c.single_at.ensures.value ∙ ap (single_at a.columns.now) c.place_of.ensures.value in
-    let f : Alike (own_one a.q a.level (relation_of T a.s a.k)) a.p r.says r.stop = subst (λ (s : Single). Alike (own_one a.q a.level (relation_by a.low.now a.high.now s)) a.p r.says r.stop) e c.own_run-r.ensures.alike in
+    let e = c.single_at.ensures.value ∙ ap (single_at a.pack.now.columns) c.place_of.ensures.value in
+    let f : Alike (own_one a.q a.level (relation_of T a.s a.k)) a.p r.says r.stop = subst (λ (s : Single). Alike (own_one a.q a.level (relation_by a.pack.now.low a.pack.now.high s)) a.p r.says r.stop) e c.own_run-r.ensures.alike in
     record {
       alike = f;
-      kept_2 = kept_set T a.s a.q a.level a.p a.says.now a.stop.now a.k r.stop r.says (omega (arith, c.requires.to_le_relation_room.3)) (omega (arith, c.requires.to_le_relation_room.3)) f c.requires.kept;
+      kept_2 = kept_set T a.s a.q a.level a.p a.runs.now.says a.runs.now.stop a.k r.stop r.says (omega (arith, c.requires.to_le_relation_room.3)) (omega (arith, c.requires.to_le_relation_room.3)) f c.requires.kept;
     }

@@ -1,6 +1,6 @@
 -- `check_table::level::add_level`: the level asks nothing, or has segments, or lets no number pass, or has no room.
 use native.Mathlib.Omega.{arith}
-use Rattle.pack_rules.specs.Stretch.{table}
+use Rattle.pack_rules.specs.Stretch.{table, table_of}
 use Rattle.check_laws.specs.Read.{joined_in}
 use borrow.Author.Tests.{not-true}
 use Rattle.check_table.proofs.Building.{added_free, added_level, added_none, is_full}
@@ -10,7 +10,7 @@ pub returns-then-not-on : goal.returns-then-not-on
 returns-then-not-on c =
     let a = c.args in
     let p = c.requires in
-    let c' = joined_in (table a.columns.now a.low.now a.high.now) a.s in
+    let c' = joined_in (table_of a.pack.now) a.s in
     added_free a.q c' p.laid p.tabled p.fit.4 (p.x_value (not-true _ c.if-not-on.true-raw))
 
 pub fill_level-end-requires : goal.fill_level-end-requires
@@ -29,7 +29,7 @@ pub returns-then-end-from : goal.returns-then-end-from
 returns-then-end-from c =
     let a = c.args in
     let p = c.requires in
-    let c' = joined_in (table a.columns.now a.low.now a.high.now) a.s in
+    let c' = joined_in (table_of a.pack.now) a.s in
     let f = c.fill_level-end in
     added_none a.q c' f.ensures.laid_2 f.ensures.tabled_2 p.fit.4 f.result (f.ensures.covers (omega (arith, c.if-end-gt-ROOM.false))) (omega (arith, c.if-end-from.true))
 
@@ -37,6 +37,6 @@ pub returns : goal.returns
 returns c =
     let a = c.args in
     let p = c.requires in
-    let c' = joined_in (table a.columns.now a.low.now a.high.now) a.s in
+    let c' = joined_in (table_of a.pack.now) a.s in
     let f = c.fill_level-end in
     added_level a.q c' f.ensures.laid_2 f.ensures.tabled_2 p.fit.4 f.result (f.ensures.covers (omega (arith, c.if-end-gt-ROOM.false))) (omega (arith, c.if-end-from.false)) (omega (arith, c.if-end-gt-ROOM.false))

@@ -1,6 +1,6 @@
 -- `check_table::level::build` adds the levels in turn. Invariant: those below j stand.
 use native.Mathlib.Omega.{arith}
-use Rattle.pack_rules.specs.Stretch.{table}
+use Rattle.pack_rules.specs.Stretch.{table, table_of}
 use Rattle.check_laws.specs.Read.{joined_in}
 use Rattle.check_table.proofs.Building.{building_start, building_more, built_empty, built_all, is_full, level_small}
 use Rattle.check_table.proofs.level.build.Goals as goal
@@ -22,7 +22,7 @@ add_level-b-requires c =
 pub returns-in-Empty : goal.returns-in-Empty
 returns-in-Empty c =
     let a = c.args in
-    let c' = joined_in (table a.columns.now a.low.now a.high.now) a.s in
+    let c' = joined_in (table_of a.pack.now) a.s in
     built_empty a.q c' c.loop-j.j c.add_level-b.ensures (omega (arith, c.loop-j-test.true)) c.in-Empty.is
 
 pub returns-in-Full : goal.returns-in-Full

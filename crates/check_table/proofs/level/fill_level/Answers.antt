@@ -3,7 +3,7 @@ use native.Mathlib.Omega.{arith}
 use lib.ListN.{length-replicate}
 use Rattle.check_runs.proofs.Keeping.{gathered_listed}
 use Prim.Native.Nat.{ℕ}
-use Rattle.pack_rules.specs.Stretch.{table}
+use Rattle.pack_rules.specs.Stretch.{table, table_of}
 use Rattle.check_laws.proofs.Readying.{fit_room}
 use Rattle.check_table.proofs.Finding.{kept_fresh}
 use Rattle.check_table.proofs.Building.{filling_start, filling_more, filling_done, filling_all, level_small}
@@ -16,12 +16,12 @@ pub list_level-count-requires : goal.list_level-count-requires
 list_level-count-requires c = (omega (arith, c.size_of.ensures, c.requires.fit.3), length-replicate {A = ℕ} 16 0)
 
 pub loop-p-init : goal.loop-p-init
-loop-p-init c = let a = c.args in let T = table a.columns.now a.low.now a.high.now in let p = c.requires in (filling_start a.m p.laid p.tabled, kept_fresh T a.s a.q a.j 0)
+loop-p-init c = let a = c.args in let T = table_of a.pack.now in let p = c.requires in (filling_start a.m p.laid p.tabled, kept_fresh T a.s a.q a.j 0)
 
 pub find-f-requires : goal.find-f-requires
-find-f-requires c = let a = c.args in let T = table a.columns.now a.low.now a.high.now in let p = c.requires in let i = c.loop-p.invariant in
+find-f-requires c = let a = c.args in let T = table_of a.pack.now in let p = c.requires in let i = c.loop-p.invariant in
     record {
-      fit = (p.fit.0, fit_room a.q a.m p.fit.0 (omega (arith, level_small a.j a.m p.fit.4 p.fit.5)), i.0.reach, p.fit.1, p.fit.2, p.fit.3, gathered_listed T a.s a.q a.j a.tiers.now c.list_level-count.new.list c.list_level-count.result c.size_of.result (omega (arith, p.fit.4)) p.fit.6 c.size_of.ensures (omega (arith, c.size_of.ensures, p.fit.3)) c.list_level-count.ensures);
+      fit = (p.fit.0, fit_room a.q a.m p.fit.0 (omega (arith, level_small a.j a.m p.fit.4 p.fit.5)), i.0.reach, p.fit.1, p.fit.2, p.fit.3, gathered_listed T a.s a.q a.j a.marks.now.tiers c.list_level-count.new.list c.list_level-count.result c.size_of.result (omega (arith, p.fit.4)) p.fit.6 c.size_of.ensures (omega (arith, c.size_of.ensures, p.fit.3)) c.list_level-count.ensures);
       laid = i.0.laid;
       tabled = i.0.tabled;
       kept = i.1;
@@ -44,19 +44,19 @@ returns-then-n-ge-ROOM c = let i = c.loop-p.invariant in
     }
 
 pub overflow_cast-starts : goal.overflow_cast-starts
-overflow_cast-starts c = let a = c.args in let T = table a.columns.now a.low.now a.high.now in let p = c.requires in let i = c.loop-p.invariant in let o = c.find-f.ensures.opens in omega (arith, level_small a.j a.m p.fit.4 p.fit.5, o.least.high, c.if-m-f.false)
+overflow_cast-starts c = let a = c.args in let T = table_of a.pack.now in let p = c.requires in let i = c.loop-p.invariant in let o = c.find-f.ensures.opens in omega (arith, level_small a.j a.m p.fit.4 p.fit.5, o.least.high, c.if-m-f.false)
 
 pub overflow_sub-ends : goal.overflow_sub-ends
-overflow_sub-ends c = let a = c.args in let T = table a.columns.now a.low.now a.high.now in let p = c.requires in let i = c.loop-p.invariant in let o = c.find-f.ensures.opens in omega (arith, o.some (omega (arith, c.if-m-f.false)))
+overflow_sub-ends c = let a = c.args in let T = table_of a.pack.now in let p = c.requires in let i = c.loop-p.invariant in let o = c.find-f.ensures.opens in omega (arith, o.some (omega (arith, c.if-m-f.false)))
 
 pub overflow_cast-ends : goal.overflow_cast-ends
-overflow_cast-ends c = let a = c.args in let T = table a.columns.now a.low.now a.high.now in let p = c.requires in let i = c.loop-p.invariant in let o = c.find-f.ensures.opens in omega (arith, level_small a.j a.m p.fit.4 p.fit.5, o.until (omega (arith, c.if-m-f.false)))
+overflow_cast-ends c = let a = c.args in let T = table_of a.pack.now in let p = c.requires in let i = c.loop-p.invariant in let o = c.find-f.ensures.opens in omega (arith, level_small a.j a.m p.fit.4 p.fit.5, o.until (omega (arith, c.if-m-f.false)))
 
 pub loop-p-smaller : goal.loop-p-smaller
-loop-p-smaller c = let a = c.args in let T = table a.columns.now a.low.now a.high.now in let p = c.requires in let i = c.loop-p.invariant in let o = c.find-f.ensures.opens in omega (arith, o.least.low, o.some (omega (arith, c.if-m-f.false)), c.loop-p-test.true)
+loop-p-smaller c = let a = c.args in let T = table_of a.pack.now in let p = c.requires in let i = c.loop-p.invariant in let o = c.find-f.ensures.opens in omega (arith, o.least.low, o.some (omega (arith, c.if-m-f.false)), c.loop-p-test.true)
 
 pub loop-p-preserved : goal.loop-p-preserved
-loop-p-preserved c = let a = c.args in let T = table a.columns.now a.low.now a.high.now in let p = c.requires in let i = c.loop-p.invariant in let o = c.find-f.ensures.opens in (filling_more i.0 o (level_small a.j a.m p.fit.4 p.fit.5) (omega (arith, c.if-n-ge-ROOM.false)) (omega (arith, c.if-m-f.false)), c.find-f.ensures.kept_2)
+loop-p-preserved c = let a = c.args in let T = table_of a.pack.now in let p = c.requires in let i = c.loop-p.invariant in let o = c.find-f.ensures.opens in (filling_more i.0 o (level_small a.j a.m p.fit.4 p.fit.5) (omega (arith, c.if-n-ge-ROOM.false)) (omega (arith, c.if-m-f.false)), c.find-f.ensures.kept_2)
 
 pub returns : goal.returns
 returns c = let p = c.requires in let i = c.loop-p.invariant in

@@ -3,4 +3,4 @@ use mathlib.Core.Path.{◌∙◌}
 use Rattle.select.proofs.mask.met_at.Goals as goal
 
 pub returns : goal.returns
-returns c = c.condition_holds.ensures ∙ rw (c.clauses_start.ensures, c.clauses_stop.ensures)
+returns c = c.condition_holds.ensures ∙ rw (c.start_at.ensures, c.stop_at.ensures)
