@@ -1,28 +1,20 @@
--- `decimal::value::value_first` works out the value of first digits, zeros after the end. The invariant is that of `value_from`.
-use mathlib.Core.Path.{◌≡◌, ap}
-use Rattle.decimal.proofs.Values.{first_more, cap_more}
-use native.Mathlib.Omega.{arith}
-use mathlib.Core.Path.{◌≡◌, ap}
-use Prim.Native.Nat.{ℕ}
+-- `decimal::value::value_first` works out the value of first digits, with zeros after the end.
 use mathlib.Core.Path.{◌≡◌}
-use Rattle.decimal.specs.Digits.{value_from, first, cap}
+use native.Mathlib.Omega.{arith}
+use Rattle.std.proofs.Common.{rules, tests}
+use Rattle.std.proofs.lemmas.Iterator.{YieldsList-from_slice, YieldsList-from_take}
+use Rattle.std.proofs.lemmas.Iterator.Adapters.{YieldsList-from_repeat_n}
+use Rattle.std.proofs.lemmas.Iterator.Consumers.{fold_from_yields_List, YieldsList-from_copied, YieldsList-from_chain, YieldsList-at}
+use Rattle.decimal.specs.Digits.{first}
+use Rattle.decimal.proofs.Values.{one_more, value_fold, first_is}
 use Rattle.decimal.proofs.value.value_first.Goals as goal
-
-pub loop-i-preserved : goal.loop-i-preserved
-loop-i-preserved c =
-    let a = c.args in
-    let v = value_from a.n (first c.loop-i.i a.s.now) in
-    let d = c.digit_at.ensures in
-    (omega arith, rw (first_more a.n a.s.now c.loop-i.i, ← d) (cap_more cap c.loop-i.m v _ c.one_more-m.result c.loop-i.invariant.1 c.one_more-m.ensures))
-
-pub returns-then-m-lt-CAP : goal.returns-then-m-lt-CAP
-returns-then-m-lt-CAP c =
-    let a = c.args in
-    let e : c.loop-i.i ≡ a.k = omega arith in
-    omega (arith, ap (λ (x : ℕ). value_from a.n (first x a.s.now)) e)
 
 pub returns : goal.returns
 returns c =
     let a = c.args in
-    let e : c.loop-i.i ≡ a.k = omega arith in
-    omega (arith, ap (λ (x : ℕ). value_from a.n (first x a.s.now)) e)
+    let s = a.s.now in
+    let front = YieldsList-at c.chain.ensures.first (YieldsList-from_copied (YieldsList-from_slice s cc)) in
+    let zeros = YieldsList-at c.chain.ensures.second (YieldsList-from_repeat_n (λ x y. y ≡ x) a.k 48 c.repeat_n.ensures.count c.repeat_n.ensures.item (λ y e. e)) in
+    let all = YieldsList-from_take a.k (YieldsList-at c.take.ensures.source (YieldsList-from_chain front zeros c.chain.ensures.first_done c.chain.ensures.second_done)) c.take.ensures.count in
+    let e = rw first_is at (fold_from_yields_List _ one_more a.n c.fold.result c.fold.ensures.ran all (λ m x r q k. search (rules, tests))) in
+    omega (arith, value_fold a.n (first a.k s))
