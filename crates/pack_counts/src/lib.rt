@@ -10,7 +10,7 @@ use pack_grammar::MAX_BYTES;
 
 // How many ranges, relations, clauses and rules the arrays hold; how many values the open relation,
 // relations the open clause and clauses the open rule has.
-#[derive(Clone, Copy, PartialEq, Eq)]
+#[derive(Clone, Copy, PartialEq, Eq, Default)]
 pub struct Counts {
     pub ranges: usize,
     pub relations: usize,

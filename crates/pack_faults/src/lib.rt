@@ -13,7 +13,7 @@ use pack_grammar::{MAX_CLAUSES, MAX_RANGES, MAX_RELATIONS, MAX_VALUE};
 
 // The place of the last token before nothing could follow; the first fault's number, 0 for none, and
 // its place.
-#[derive(Clone, Copy)]
+#[derive(Clone, Copy, Default)]
 pub struct Mark {
     pub stop: usize,
     pub row: u8,

@@ -21,7 +21,7 @@ use pack_token::first_byte;
 
 // What is being read: the rule's keyword number, the relation's operand, modulus and sign, the last value, and
 // whether the token before was `other`.
-#[derive(Clone, Copy)]
+#[derive(Clone, Copy, Default)]
 pub struct Current {
     pub key: u8,
     pub operand: u8,
