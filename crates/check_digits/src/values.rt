@@ -37,12 +37,10 @@ fn values_of(pack: &Pack, s: Single, n: u64) -> u64
 {
     let mut mask: u64 = 0;
     let mut place: u64 = 1;
-    let mut x: u64 = 0;
-    while x < n {
+    for x in 0..n {
         let on = holds_of(pack, s, x);
         mask = with_bit(mask, place, on);
         place *= 2;
-        x += 1;
     }
     mask
 }
@@ -100,12 +98,10 @@ pub fn between(b: Bounds) -> u64
 {
     let mut mask: u64 = 0;
     let mut place: u64 = 1;
-    let mut v: u8 = 0;
-    while v < EVERY_V {
+    for v in 0..EVERY_V {
         let on = is_between(b, Places(v));
         mask = with_bit(mask, place, on);
         place *= 2;
-        v += 1;
     }
     mask
 }

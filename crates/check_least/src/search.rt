@@ -14,7 +14,7 @@ use check_laws::{Query, Span};
 use check_next::{NextTable, ROOM};
 use check_runs::clause::{clause_run, ends_of, passes_at, size_of};
 use check_runs::marks::{list_level, mark_levels};
-use check_runs::{KEPT, Marks, Runs};
+use check_runs::{KEPT, LevelMarks, Runs};
 use check_table::level::LEVELS;
 use check_table::{Built, find, level};
 use pack_rules::Pack;
@@ -31,18 +31,16 @@ fn try_each(pack: &Pack, s: Span, q: Query, lo: u64, hi: u64) -> u64
     requires { Room q hi × (lo ≤ hi) × (s.to ≤ relation_room) × (s.stop ≤ relation_room) }
     ensures { Least (passes_all q (joined_in (table_of pack.now) s)) lo hi result }
 {
-    let mut x = lo;
-    while x < hi {
+    for x in lo..hi {
         if passes_at(pack, s, q, x) {
             return x;
         }
-        x += 1;
     }
     hi
 }
 
 // The least number that the relations of the number itself allow.
-fn in_window(pack: &Pack, s: Span, q: Query, marks: &Marks, lo: u64, hi: u64) -> u64
+fn in_window(pack: &Pack, s: Span, q: Query, marks: &LevelMarks, lo: u64, hi: u64) -> u64
     requires { Fit q × Room q hi × (lo ≤ hi) × (s.to ≤ relation_room) × (s.stop ≤ relation_room) × (size_of s ≤ kept_room) × Told (table_of pack.now) s q marks.now.tiers }
     ensures { Least (own q (joined_in (table_of pack.now) s) window) lo hi result }
 {
@@ -67,7 +65,7 @@ fn by_table(
     pack: &Pack,
     s: Span,
     q: Query,
-    marks: &Marks,
+    marks: &LevelMarks,
     table: &NextTable,
     lo: u64,
     hi: u64,
@@ -88,7 +86,7 @@ fn by_table(
 }
 
 // Makes the table and searches by it.
-fn in_table(pack: &Pack, s: Span, q: Query, marks: &Marks, lo: u64, hi: u64) -> u64
+fn in_table(pack: &Pack, s: Span, q: Query, marks: &LevelMarks, lo: u64, hi: u64) -> u64
     requires fit { Fit q × Room q hi × (lo ≤ hi) × (s.to ≤ relation_room) × (s.stop ≤ relation_room) × (size_of s ≤ kept_room) × Told (table_of pack.now) s q marks.now.tiers }
     requires s_value { levelled q (joined_in (table_of pack.now) s) ≡ true }
     requires by_index { (j : ℕ) → j < 9 → get_or marks.now.asked j false ≡ false → (x : ℕ) → own q (joined_in (table_of pack.now) s) j x ≡ true }
@@ -108,22 +106,20 @@ fn in_table(pack: &Pack, s: Span, q: Query, marks: &Marks, lo: u64, hi: u64) -> 
 }
 
 // Whether a remainder is asked.
-fn asks_remainder(marks: &Marks) -> bool
+fn asks_remainder(marks: &LevelMarks) -> bool
     ensures { result ≡ false → (j : ℕ) → j < 7 → get_or marks.now.asked j false ≡ false }
 {
-    let mut j: usize = 0;
-    while j < LEVELS {
+    for j in 0..LEVELS {
         if marks.asked[j] {
             return true;
         }
-        j += 1;
     }
     false
 }
 
 // The least number by the levels that the clause asks. What is asked of the number itself comes first:
 // where it leaves no number, or its least one passes, there is no table.
-fn by_window(pack: &Pack, s: Span, q: Query, marks: &Marks, lo: u64, hi: u64) -> u64
+fn by_window(pack: &Pack, s: Span, q: Query, marks: &LevelMarks, lo: u64, hi: u64) -> u64
     requires fit { Fit q × Room q hi × (lo ≤ hi) × (s.to ≤ relation_room) × (s.stop ≤ relation_room) × (size_of s ≤ kept_room) × Told (table_of pack.now) s q marks.now.tiers }
     requires s_value { levelled q (joined_in (table_of pack.now) s) ≡ true }
     requires by_index { (j : ℕ) → j < 9 → get_or marks.now.asked j false ≡ false → (x : ℕ) → own q (joined_in (table_of pack.now) s) j x ≡ true }
@@ -152,7 +148,7 @@ fn by_levels(pack: &Pack, s: Span, q: Query, lo: u64, hi: u64) -> u64
     if KEPT < size_of(s) {
         return try_each(pack, s, q, lo, hi);
     }
-    let mut marks = Marks {
+    let mut marks = LevelMarks {
         asked: [false; 9],
         tiers: [0; KEPT],
     };

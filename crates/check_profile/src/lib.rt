@@ -119,10 +119,8 @@ pub fn clause_profile(pack: &Pack, from: usize, to: usize) -> u64
     ensures { result ≡ profile_of (relations_in (table_of pack.now) from to) }
 {
     let mut p = any_digit(EACH_E, EACH_PLACE, EACH_PLACE, NEITHER_ASKED);
-    let mut j = from;
-    while j < to {
+    for j in from..to {
         p = p & relation_profile(pack, single_at(pack, j));
-        j += 1;
     }
     p
 }

@@ -13,7 +13,6 @@ use lib.Seq.{get_or-set_same, get_or-set_other}
 use borrow.Author.Tests.{lt-ltb, le-ltb, eq-eqb, ne_eqb, eqb-true, eqb-false}
 use Rattle.std.specs.Prelude.{if◌then◌else◌}
 use Rattle.decimal.specs.Choice.{both}
-use Rattle.decimal.proofs.Choices.{tested}
 use Rattle.decimal.specs.Lists.{all}
 use Rattle.pack_rules.specs.Syntax.{Relation}
 use Rattle.pack_rules.specs.Stretch.{stretch, Table, relation_at}
@@ -172,13 +171,6 @@ module _ (tiers : List ℕ) (level : ℕ) (list : List ℕ) (n k : ℕ) (g : Gat
             (λ a. absurd (eqb-false (get_or tiers k 0) level t (ap (λ (y : ℕ). get_or tiers y 0) (let z : k ≡ x = omega arith in z) ∙ u)))
             (split x k);
       }
-
--- one index more, stored or not
-pub gathered_next : (tiers : List ℕ) (level : ℕ) (list : List ℕ) (n k m o : ℕ) → Gathered tiers level list n k → n < length list → o ≡ (if eqb (get_or tiers k 0) level then 1 else 0) → m ≡ n + o → Gathered tiers level (set list n k) m (k + 1)
-gathered_next tiers level list n k m o g h e f =
-    tested (eqb (get_or tiers k 0) level)
-    (λ t. gathered_more tiers level list n k g h m t (f ∙ ap (λ (x : ℕ). n + x) (e ∙ rw t)))
-    (λ t. gathered_same tiers level list n k g h m t (f ∙ ap (λ (x : ℕ). n + x) (e ∙ rw t)))
 
 module _ (T : Table) (s : Span) (q : Query) (j : ℕ) where
   pub gathered_listed : (tiers list : List ℕ) (n k : ℕ) → j < 9 → Told T s q tiers → k ≡ size_of s → k ≤ 16 → Gathered tiers j list n k → Listed T s q j list n

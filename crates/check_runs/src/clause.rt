@@ -16,7 +16,6 @@ ghost use Rattle.check_relation.specs.Runs.{tier, far};
 use crate::{LevelList, Runs};
 use check_laws::{Query, Span};
 use check_relation::{FAR, Run, relation};
-use decimal::num::lesser;
 use pack_rules::{Pack, single_at};
 
 // How many places there are from `from` to before `to`.
@@ -107,17 +106,15 @@ pub fn clause_run(pack: &Pack, s: Span, q: Query, list: &LevelList, p: u64, runs
         return digit;
     }
     let mut end = FAR;
-    let mut i = 0;
-    while i < list.count {
+    for i in 0..list.count {
         let r = run_at(pack, s, q, list.level, p, list.at[i], runs);
         if !r.says {
             return Run {
                 says: false,
-                stop: lesser(r.stop, FAR),
+                stop: r.stop.min(FAR),
             };
         }
-        end = lesser(end, r.stop);
-        i += 1;
+        end = end.min(r.stop);
     }
     Run {
         says: true,
@@ -143,14 +140,10 @@ pub fn passes_at(pack: &Pack, s: Span, q: Query, x: u64) -> bool
     if !ends_of(q, x) {
         return false;
     }
-    let size = size_of(s);
-    let mut k = 0;
-    while k < size {
-        let j = place_of(s, k);
-        if !relation::passes_of(pack, q, single_at(pack, j), x) {
+    for k in 0..size_of(s) {
+        if !relation::passes_of(pack, q, single_at(pack, place_of(s, k)), x) {
             return false;
         }
-        k += 1;
     }
     true
 }

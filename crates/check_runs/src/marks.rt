@@ -8,7 +8,7 @@ ghost use Rattle.check_laws.specs.Ready.{Fit};
 ghost use Rattle.check_runs.specs.Kept.{kept_room, size_of, Told, Gathered, Noted, Grown};
 ghost use Rattle.check_relation.specs.Runs.{tier};
 
-use crate::{KEPT, LevelList, Marks, clause};
+use crate::{KEPT, LevelList, LevelMarks, clause};
 use check_laws::{Query, Span};
 use check_relation::relation;
 use decimal::num::wide;
@@ -18,17 +18,19 @@ use pack_rules::{Pack, Single, single_at};
 const UNASKED: usize = 9;
 
 // Marks the level l.
-fn mark(marks: &mut Marks, l: usize)
+fn mark(marks: &mut LevelMarks, l: usize)
     requires { l < 9 }
-    ensures false_after { get_or marks.new.asked l false ≡ true }
+    ensures marked { get_or marks.new.asked l false ≡ true }
     ensures grown { Grown marks.old.asked marks.new.asked }
+    ensures tiers_kept { marks.new.tiers ≡ marks.old.tiers }
 {
     marks.asked[l] = true;
 }
 
 // Marks the level of the last digit, where it is asked.
-fn mark_digit(q: Query, marks: &mut Marks)
-    ensures { q.odd ≡ true → get_or marks.new.asked 1 false ≡ true }
+fn mark_digit(q: Query, marks: &mut LevelMarks)
+    ensures marked { q.odd ≡ true → get_or marks.new.asked 1 false ≡ true }
+    ensures tiers_kept { marks.new.tiers ≡ marks.old.tiers }
 {
     if q.odd {
         mark(marks, 1);
@@ -36,11 +38,12 @@ fn mark_digit(q: Query, marks: &mut Marks)
 }
 
 // Marks the level of the relation, where it is asked, and tells it.
-fn mark_of(q: Query, s: Single, marks: &mut Marks) -> usize
+fn mark_of(q: Query, s: Single, marks: &mut LevelMarks) -> usize
     requires { Fit q }
-    ensures by_index { (low high : List ℕ) → result ≡ tier q (relation_by low high s) }
-    ensures by_index_2 { (low high : List ℕ) → Noted q (relation_by low high s) marks.new.asked }
+    ensures tier { (low high : List ℕ) → result ≡ tier q (relation_by low high s) }
+    ensures noted { (low high : List ℕ) → Noted q (relation_by low high s) marks.new.asked }
     ensures grown { Grown marks.old.asked marks.new.asked }
+    ensures tiers_kept { marks.new.tiers ≡ marks.old.tiers }
 {
     let k = relation::factor_of(q, s.operand);
     if k == 0 {
@@ -52,7 +55,7 @@ fn mark_of(q: Query, s: Single, marks: &mut Marks) -> usize
 }
 
 // Marks the levels that the clause asks, and tells that of each relation.
-pub fn mark_levels(pack: &Pack, s: Span, q: Query, marks: &mut Marks)
+pub fn mark_levels(pack: &Pack, s: Span, q: Query, marks: &mut LevelMarks)
     requires fit { Fit q }
     requires to_le_relation_room { (s.to ≤ relation_room) × (s.stop ≤ relation_room) × (size_of s ≤ kept_room) × (length marks.old.tiers ≡ kept_room) }
     ensures told { Told (table_of pack.now) s q marks.new.tiers }
@@ -61,16 +64,14 @@ pub fn mark_levels(pack: &Pack, s: Span, q: Query, marks: &mut Marks)
 {
     mark_digit(q, marks);
     let size = clause::size_of(s);
-    let mut k = 0;
-    while k < size {
-        let j = clause::place_of(s, k);
-        marks.tiers[k] = mark_of(q, single_at(pack, j), marks);
-        k += 1;
+    for k in 0..size {
+        let tier = mark_of(q, single_at(pack, clause::place_of(s, k)), marks);
+        marks.tiers[k] = tier;
     }
 }
 
 // The relations below `size` whose level it is.
-pub fn list_level(marks: &Marks, size: usize, level: usize) -> LevelList
+pub fn list_level(marks: &LevelMarks, size: usize, level: usize) -> LevelList
     requires { size ≤ kept_room }
     ensures gathered { Gathered marks.now.tiers level result.at result.count size }
     ensures level { result.level ≡ level }
@@ -79,7 +80,9 @@ pub fn list_level(marks: &Marks, size: usize, level: usize) -> LevelList
     let mut count = 0;
     for k in 0..size {
         at[count] = k;
-        count += usize::from(marks.tiers[k] == level);
+        if marks.tiers[k] == level {
+            count += 1;
+        }
     }
     LevelList { level, count, at }
 }

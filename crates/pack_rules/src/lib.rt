@@ -11,6 +11,8 @@ ghost use Rattle.pack_rules.specs.Room.{range_room, relation_room};
 ghost use Rattle.pack_rules.specs.Held.{held_rules};
 ghost use Rattle.pack_rules.specs.Stretch.{start_at, end_at, ranges_from_at, single_at};
 
+pub mod letter;
+
 pub const RANGE_ROOM: usize = 2048;
 
 pub const RELATION_ROOM: usize = 320;

@@ -1,5 +1,5 @@
 -- `check_fraction::least_code` takes the least over the zeros at the end. Invariant: the best is that of fewer than k zeros.
-use Rattle.pack_rules.specs.Stretch.{table, table_of}
+use Rattle.pack_rules.specs.Stretch.{table_of}
 use Rattle.check_laws.specs.Read.{joined_in}
 use Rattle.check_laws.specs.Bounded.{bounded}
 use native.Mathlib.Omega.{arith}

@@ -8,15 +8,15 @@ loop-i-init c =
     let a = c.args in
     nexting_start a.table.now.starts a.table.now.ends a.table.now.at c.args.j c.args.x
 
-pub bounds-at-i : goal.bounds-at-i
-bounds-at-i c =
+pub bounds-table-i : goal.bounds-table-i
+bounds-table-i c =
     let a = c.args in
     let p = c.requires in
     let l = c.loop-i in
     omega (arith, nexting_room a.table.now.starts a.table.now.ends a.table.now.at p.0 l.invariant (omega arith))
 
-pub bounds-at-i-in-loop-i : goal.bounds-at-i-in-loop-i
-bounds-at-i-in-loop-i c =
+pub bounds-table-i-in-loop-i : goal.bounds-table-i-in-loop-i
+bounds-table-i-in-loop-i c =
     let a = c.args in
     let p = c.requires in
     let l = c.loop-i in

@@ -2,7 +2,7 @@
 use native.Mathlib.Omega.{arith}
 use Prim.Native.Nat.{ℕ}
 use mathlib.Core.Path.{sym, ap, subst, ◌∙◌}
-use Rattle.pack_rules.specs.Stretch.{single_at, relation_by, table, table_of, relation_at}
+use Rattle.pack_rules.specs.Stretch.{single_at, relation_by, table_of, relation_at}
 use Rattle.pack_rules.specs.declared.Single.{Single}
 use Rattle.check_laws.specs.Seek.{Alike}
 use Rattle.check_laws.specs.Levels.{own_one}
