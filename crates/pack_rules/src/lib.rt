@@ -32,7 +32,7 @@ pub type Keywords = [u8; RULE_ROOM];
 pub type RuleEnds = [usize; RULE_ROOM];
 
 // A pack that was read. Every array is filled from its front; what lies past the filled part means
-// nothing.
+// nothing. It is fixed memory of plain numbers: a keyword is its number, not the enum.
 #[derive(Drop)]
 pub struct Pack {
     // The ends of ranges `a..b`; a value a is the range a..a.
