@@ -1,5 +1,7 @@
 -- Every row of the card is right, by computation from the definitions; what the check says of the rules that are read of a pack is proved from the definition of the
 -- check (check_laws/proofs/Rows.antt).
+use Rattle.check_laws.specs.declared.Clash.{Clash}
+use Rattle.std.specs.Prelude.{Result, Ok, Err}
 use mathlib.Core.Path.{◌≡◌, refl}
 use mathlib.Core.List.{List}
 use Prim.Native.Nat.{ℕ}
@@ -9,21 +11,19 @@ use Rattle.layout.specs.Layout.{spell}
 use Rattle.pack_grammar.specs.Reader.{read_pack}
 use Rattle.pack_grammar.specs.Reader.PackAnswer.{Rules}
 use Rattle.check_laws.specs.Check.{check_of}
-use Rattle.check_laws.specs.declared.Checked.{Checked}
-use Rattle.check_laws.specs.declared.Checked.TheVariants.{Passes}
 use Rattle.check_laws.proofs.Rows.{clash, pack_tens, row_tens, pack_trailing, row_trailing, pack_seven, row_seven, pack_few, row_few}
 use Rattle.check_text.specs.Check.{checked_by, check_pack}
 use Rattle.card.specs.Card.{All, rows, few_pack, tens_pack, trailing_pack, seven_pack}
 
 -- what the check says of a pack's text, from what it says of the rules that are read of it
-by_rules : (pack : List ℕ) (rules : List Rule) (c : Checked) → read_pack pack ≡ Rules rules → check_of rules ≡ c → check_pack pack ≡ checked_by c
+by_rules : (pack : List ℕ) (rules : List Rule) (c : Result (Unit {0}) Clash) → read_pack pack ≡ Rules rules → check_of rules ≡ c → check_pack pack ≡ checked_by c
 by_rules pack rules c e f = rw (e, f)
 
 few_read : read_pack few_pack ≡ Rules pack_few
 few_read = refl
 
-few : check_pack few_pack ≡ checked_by Passes
-few = by_rules few_pack pack_few Passes few_read row_few
+few : check_pack few_pack ≡ checked_by (Ok tt)
+few = by_rules few_pack pack_few (Ok tt) few_read row_few
 
 tens_read : read_pack tens_pack ≡ Rules pack_tens
 tens_read = refl

@@ -1,4 +1,7 @@
 -- The check's answer is right: it passes exactly where no admitted number meets two rules, and else names the first pair and its least number.
+use Rattle.check_laws.specs.declared.Clash.{Clash}
+use Rattle.check_laws.specs.Check.{clashing}
+use Rattle.std.specs.Prelude.{Result, Ok, Err}
 use mathlib.Core.Path.{◌≡◌, refl, sym, ap, subst, ◌∙◌}
 use mathlib.Core.Bool.{Bool, true, false}
 use mathlib.Core.List.{List, [], ◌∷◌}
@@ -20,8 +23,6 @@ use Rattle.check_laws.specs.Seek.{Least}
 use Rattle.check_laws.proofs.Seeking.{and_true, seek_least, split}
 use Rattle.check_laws.specs.Check.{number_at, rank, ranked, admits, ranks, found, least_rank, clash_of, against, first_pair, check_of}
 use Rattle.check_laws.specs.Claims.{IsAdmitted, MeetsBoth, Apart, Before, rule_at, AllApart, Claims}
-use Rattle.check_laws.specs.declared.Checked.{Checked}
-use Rattle.check_laws.specs.declared.Checked.TheVariants.{Passes, Clashes}
 use Rattle.check_laws.proofs.Ranks.{admitted_of, admits_of, ranked_rank, rank_lt, rank_one, rank_before}
 
 -- ---- any test: its least admitted number
@@ -80,34 +81,34 @@ module _ (a b : Rule) where
 
 -- ---- one rule against those that follow
 
-abbrev Found : ℕ → ℕ → Rule → List Rule → Checked → Type 0
+abbrev Found : ℕ → ℕ → Rule → List Rule → Result (Unit {0}) Clash → Type 0
 Found p q a bs r =
-    (j : ℕ) × (j < length bs) × (r ≡ Clashes (record { first = p; second = q + j }) (ranked (clash_of a (rule_at bs j))))
+    (j : ℕ) × (j < length bs) × (r ≡ clashing (record { first = p; second = q + j }) (ranked (clash_of a (rule_at bs j))))
     × (clash_of a (rule_at bs j) < ranks) × ((k : ℕ) → k < j → Apart a (rule_at bs k))
 
-abbrev Missed : Rule → List Rule → Checked → Checked → Type 0
+abbrev Missed : Rule → List Rule → Result (Unit {0}) Clash → Result (Unit {0}) Clash → Type 0
 Missed a bs rest r = (r ≡ rest) × ((k : ℕ) → k < length bs → Apart a (rule_at bs k))
 
 below : (a b : Rule) (bs : List Rule) (n : ℕ) → Apart a b → ((k : ℕ) → k < n → Apart a (rule_at bs k)) → (k : ℕ) → k < suc n → Apart a (rule_at (b ∷ bs) k)
 below a b bs n c f zero h = c
 below a b bs n c f (suc k) h = f k (le_of_suc-le-suc h)
 
-one_against : (p q : ℕ) (a : Rule) (bs : List Rule) (rest : Checked) → Found p q a bs (against clash_of p q a bs rest) ⊎ Missed a bs rest (against clash_of p q a bs rest)
+one_against : (p q : ℕ) (a : Rule) (bs : List Rule) (rest : Result (Unit {0}) Clash) → Found p q a bs (against clash_of p q a bs rest) ⊎ Missed a bs rest (against clash_of p q a bs rest)
 unfolding against
 one_against p q a [] rest = inr (refl, λ k h. absurd (omega arith))
 one_against p q a (b ∷ bs) rest = go (ltb (clash_of a b) ranks) refl (one_against p (suc q) a bs rest)
   where
-    r : Checked
+    r : Result (Unit {0}) Clash
     r = against clash_of p (suc q) a bs rest
 
     go : (c : Bool) → ltb (clash_of a b) ranks ≡ c → Found p (suc q) a bs r ⊎ Missed a bs rest r
-        → Found p q a (b ∷ bs) (if c then Clashes (record { first = p; second = q }) (ranked (clash_of a b)) else r) ⊎ Missed a (b ∷ bs) rest (if c then Clashes (record { first = p; second = q }) (ranked (clash_of a b)) else r)
+        → Found p q a (b ∷ bs) (if c then clashing (record { first = p; second = q }) (ranked (clash_of a b)) else r) ⊎ Missed a (b ∷ bs) rest (if c then clashing (record { first = p; second = q }) (ranked (clash_of a b)) else r)
     go true e m =
-        inl (0, omega arith, ap (λ (n : ℕ). Clashes (record { first = p; second = n }) (ranked (clash_of a b))) (sym (add-zero q)), ltb-true _ _ e, λ k h. absurd (omega arith))
+        inl (0, omega arith, ap (λ (n : ℕ). clashing (record { first = p; second = n }) (ranked (clash_of a b))) (sym (add-zero q)), ltb-true _ _ e, λ k h. absurd (omega arith))
     go false e m =
         let c = apart a b (ltb-false _ _ e) in
         ⊎_elim
-        (λ f. inl (suc f.0, omega (arith, f.1), f.2 ∙ ap (λ (n : ℕ). Clashes (record { first = p; second = n }) (ranked (clash_of a (rule_at bs f.0)))) (suc-add q f.0 ∙ sym (add-suc q f.0)), f.3, below a b bs f.0 c f.4))
+        (λ f. inl (suc f.0, omega (arith, f.1), f.2 ∙ ap (λ (n : ℕ). clashing (record { first = p; second = n }) (ranked (clash_of a (rule_at bs f.0)))) (suc-add q f.0 ∙ sym (add-suc q f.0)), f.3, below a b bs f.0 c f.4))
         (λ f. inr (f.0, below a b bs (length bs) c f.1))
         m
 
@@ -126,9 +127,9 @@ pairs a bs C f g (suc i) (suc j) h k c = g i j (le_of_suc-le-suc h) (le_of_suc-l
 abbrev Sooner : ℕ → ℕ → ℕ → ℕ → Type 0
 Sooner i j k l = (k < i) ⊎ ((k ≡ i) × (l < j))
 
-extend : (p : ℕ) (a : Rule) (bs : List Rule) (r : Checked) → Claims (suc p) bs r → ((k : ℕ) → k < length bs → Apart a (rule_at bs k)) → Claims p (a ∷ bs) r
-extend p a bs Passes h f = λ i j u w. pairs a bs (λ _ _. Unit {0}) (λ j k _. f j k) (λ i j k m _. h i j k m) i j u w tt
-extend p a bs (Clashes pair x) h f =
+extend : (p : ℕ) (a : Rule) (bs : List Rule) (r : Result (Unit {0}) Clash) → Claims (suc p) bs r → ((k : ℕ) → k < length bs → Apart a (rule_at bs k)) → Claims p (a ∷ bs) r
+extend p a bs (Ok tt) h f = λ i j u w. pairs a bs (λ _ _. Unit {0}) (λ j k _. f j k) (λ i j k m _. h i j k m) i j u w tt
+extend p a bs (Err c) h f =
     let i = h.0 in
     let j = h.1 in
     let L = h.4 in (
@@ -151,7 +152,7 @@ unfolding first_pair
 from_claims p [] = λ i j h k. absurd (omega arith)
 from_claims p (a ∷ bs) = go (from_claims (suc p) bs) (one_against p (suc p) a bs (first_pair clash_of (suc p) bs))
   where
-    R : Checked
+    R : Result (Unit {0}) Clash
     R = against clash_of p (suc p) a bs (first_pair clash_of (suc p) bs)
 
     found_first : Found p (suc p) a bs R → Claims p (a ∷ bs) R
@@ -182,12 +183,12 @@ pub check_claims : (rs : List Rule) → Claims 1 rs (check_of rs)
 check_claims rs = from_claims 1 rs
 
 -- The check passes exactly where no admitted number meets two rules.
-pub passes_apart : (rs : List Rule) → check_of rs ≡ Passes → AllApart rs
+pub passes_apart : (rs : List Rule) → check_of rs ≡ (Ok tt) → AllApart rs
 passes_apart rs e = subst (Claims 1 rs) e (check_claims rs)
 
-pub apart_passes : (rs : List Rule) → AllApart rs → check_of rs ≡ Passes
+pub apart_passes : (rs : List Rule) → AllApart rs → check_of rs ≡ Ok tt
 apart_passes rs h = go (check_of rs) (check_claims rs)
   where
-    go : (r : Checked) → Claims 1 rs r → r ≡ Passes
-    go Passes c = refl
-    go (Clashes pair x) c = let L = c.4 in absurd (h c.0 c.1 L.order L.inside x L.met)
+    go : (r : Result (Unit {0}) Clash) → Claims 1 rs r → r ≡ Ok tt
+    go (Ok tt) c = refl
+    go (Err k) c = let L = c.4 in absurd (h c.0 c.1 L.order L.inside k.witness L.met)

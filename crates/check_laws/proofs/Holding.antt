@@ -1,4 +1,6 @@
 -- The check of a pack is that of its rules by places.
+use Rattle.check_laws.specs.declared.Clash.{Clash}
+use Rattle.std.specs.Prelude.{Result}
 use mathlib.Core.Path.{◌≡◌, refl, sym, ap, ap₂, ◌∙◌}
 use mathlib.Core.List.{List}
 use Prim.Native.Nat.{ℕ, zero, suc, ◌+◌, ◌-◌, min}
@@ -11,7 +13,6 @@ use Rattle.pack_rules.proofs.Stretches.{Sized, held_rules_law}
 use Rattle.check_laws.specs.Check.{named, against, first_pair, check_of}
 use Rattle.check_laws.specs.Fast.{fast_rank, both_of, fast_clash}
 use Rattle.check_laws.specs.Read.{bare_rule}
-use Rattle.check_laws.specs.declared.Checked.{Checked}
 use Rattle.check_laws.proofs.Joining.{check_fast}
 
 -- ---- keywords do not matter to a search that asks the clauses alone
@@ -24,7 +25,7 @@ abbrev pub by_clauses : (Clauses → Clauses → ℕ) → Rule → Rule → ℕ
 by_clauses G a b = G a.clauses b.clauses
 
 module _ (G : Clauses → Clauses → ℕ) (g h : ℕ → Rule) (same : (j : ℕ) → (g j).clauses ≡ (h j).clauses) where
-  against_same : (p q i k n : ℕ) (r s : Checked) → r ≡ s → against (by_clauses G) p q (g i) (stretch g k n) r ≡ against (by_clauses G) p q (h i) (stretch h k n) s
+  against_same : (p q i k n : ℕ) (r s : Result (Unit {0}) Clash) → r ≡ s → against (by_clauses G) p q (g i) (stretch g k n) r ≡ against (by_clauses G) p q (h i) (stretch h k n) s
   unfolding against stretch
   against_same p q i k zero r s e = e
   against_same p q i k (suc n) r s e = ap₂ (named p q) (ap₂ G (same i) (same k)) (against_same p (suc q) i (suc k) n r s e)
@@ -35,7 +36,7 @@ module _ (G : Clauses → Clauses → ℕ) (g h : ℕ → Rule) (same : (j : ℕ
   first_same p k (suc n) = against_same p (suc p) k (suc k) n _ _ (first_same (suc p) (suc k) n)
 
 -- The pairs of a pack's rules are those of its rules by places.
-pub held_by : (G : Clauses → Clauses → ℕ) (p : Pack) (n : ℕ) (r : Checked) → Sized p → n ≡ min p.count 6
+pub held_by : (G : Clauses → Clauses → ℕ) (p : Pack) (n : ℕ) (r : Result (Unit {0}) Clash) → Sized p → n ≡ min p.count 6
     → r ≡ first_pair (by_clauses G) (0 + 1) (stretch (bare_rule (table_of p) p.relations p.clauses) 0 (n - 0)) → r ≡ first_pair (by_clauses G) 1 (held_rules p)
 held_by G p n r f e h =
     h ∙ ap (λ (m : ℕ). first_pair (by_clauses G) 1 (stretch (bare_rule (table_of p) p.relations p.clauses) 0 m)) (sub-zero n ∙ e)
@@ -43,5 +44,5 @@ held_by G p n r f e h =
     ∙ sym (ap (first_pair (by_clauses G) 1) (held_rules_law p f))
 
 -- The check of a pack by the search that is run.
-pub held_is : (p : Pack) (n : ℕ) (r : Checked) → Sized p → n ≡ min p.count 6 → r ≡ first_pair fast_clash (0 + 1) (stretch (bare_rule (table_of p) p.relations p.clauses) 0 (n - 0)) → r ≡ check_of (held_rules p)
+pub held_is : (p : Pack) (n : ℕ) (r : Result (Unit {0}) Clash) → Sized p → n ≡ min p.count 6 → r ≡ first_pair fast_clash (0 + 1) (stretch (bare_rule (table_of p) p.relations p.clauses) 0 (n - 0)) → r ≡ check_of (held_rules p)
 held_is p n r f e h = held_by (λ (a b : Clauses). fast_rank (both_of a b)) p n r f e h ∙ sym (check_fast (held_rules p))

@@ -1,4 +1,6 @@
 -- A number meets both of two rules exactly where it meets the one condition that joins their clauses; so the check is that of the search that is run.
+use Rattle.check_laws.specs.declared.Clash.{Clash}
+use Rattle.std.specs.Prelude.{Result}
 use mathlib.Core.Path.{◌≡◌, refl, sym, ap, ap₂, ◌∙◌}
 use mathlib.Core.Bool.{Bool, true, false}
 use mathlib.Core.List.{List, [], ◌∷◌, ◌++◌}
@@ -10,7 +12,6 @@ use Rattle.meaning.specs.Meaning.{holds, clause_holds, condition_holds, meets}
 use Rattle.check_laws.proofs.Seeking.{least_one, seek_least}
 use Rattle.check_laws.specs.Check.{number_at, ranked, admits, ranks, found, least_rank, clash_of, named, against, first_pair, check_of}
 use Rattle.check_laws.specs.Fast.{with_each, both_of, fast_clash, fast_check}
-use Rattle.check_laws.specs.declared.Checked.{Checked}
 use Rattle.check_laws.proofs.FastIs.{fast_is, least_same}
 
 and_assoc : (a b c : Bool) → both a (both b c) ≡ both (both a b) c
@@ -73,7 +74,7 @@ clash_fast a b =
 -- ---- the check by another search that finds the same
 
 module _ (L M : Rule → Rule → ℕ) (same : (a b : Rule) → L a b ≡ M a b) where
-  against_same : (p q : ℕ) (a : Rule) (bs : List Rule) (rest rest' : Checked) → rest ≡ rest' → against L p q a bs rest ≡ against M p q a bs rest'
+  against_same : (p q : ℕ) (a : Rule) (bs : List Rule) (rest rest' : Result (Unit {0}) Clash) → rest ≡ rest' → against L p q a bs rest ≡ against M p q a bs rest'
   unfolding against
   against_same p q a [] rest rest' e = e
   against_same p q a (b ∷ bs) rest rest' e = ap₂ (named p q) (same a b) (against_same p (suc q) a bs rest rest' e)

@@ -1,4 +1,7 @@
 -- Rows of document 01's bench card, of the check, from the definition: the number is met by both rules, and every number that is comes no earlier.
+use Rattle.check_laws.specs.declared.Clash.{Clash}
+use Rattle.check_laws.specs.Check.{clashing}
+use Rattle.std.specs.Prelude.{Result, Ok}
 use mathlib.Core.Path.{◌≡◌, refl, ap, ◌∙◌}
 use mathlib.Core.Bool.{Bool, true, false, not}
 use mathlib.Core.List.{List, [], ◌∷◌}
@@ -20,8 +23,6 @@ use Rattle.meaning.specs.Meaning.{meets, in_range}
 use Rattle.check_laws.proofs.Seeking.{split}
 use Rattle.check_laws.specs.Check.{number_at, rank, ranked, ranks, clash_of, against, first_pair, check_of}
 use Rattle.check_laws.specs.Claims.{IsAdmitted, Apart, rule_at}
-use Rattle.check_laws.specs.declared.Checked.{Checked}
-use Rattle.check_laws.specs.declared.Checked.TheVariants.{Passes, Clashes}
 use Rattle.check_laws.proofs.Ranks.{ranked_rank, rank_lt}
 use Rattle.check_laws.proofs.Claimed.{lower, found_passes, apart_passes}
 
@@ -36,8 +37,8 @@ rule k r = record { keyword = k; clauses = (r ∷ []) ∷ [] }
 abbrev pub spot : ℕ → ℕ → ℕ → ℕ → Witness
 spot e v i f = record { e = e; v = record { 0 = v }; i = i; f = record { 0 = f } }
 
-abbrev pub clash : ℕ → ℕ → ℕ → ℕ → ℕ → ℕ → Checked
-clash p q e v i f = Clashes (record { first = p; second = q }) (spot e v i f)
+abbrev pub clash : ℕ → ℕ → ℕ → ℕ → ℕ → ℕ → Result (Unit {0}) Clash
+clash p q e v i f = clashing (record { first = p; second = q }) (spot e v i f)
 
 -- ---- two rules
 
@@ -49,11 +50,11 @@ module _ (a b : Rule) where
   MeetBoth y = IsAdmitted y × (meets a (number_at y) ≡ true) × (meets b (number_at y) ≡ true)
 
   -- the least number that meets both
-  two_clash : (x : Witness) → MeetBoth x → ((y : Witness) → MeetBoth y → rank x ≤ rank y) → check_of (a ∷ b ∷ []) ≡ Clashes (record { first = 1; second = 2 }) x
+  two_clash : (x : Witness) → MeetBoth x → ((y : Witness) → MeetBoth y → rank x ≤ rank y) → check_of (a ∷ b ∷ []) ≡ clashing (record { first = 1; second = 2 }) x
   unfolding against first_pair
   two_clash x m least =
-      ap (λ (t : Bool). if t then Clashes (record { first = 1; second = 2 }) (ranked (clash_of a b)) else Passes) (lt-ltb (clash_of a b) ranks few)
-      ∙ ap (Clashes (record { first = 1; second = 2 })) (ap ranked same ∙ ranked_rank x m.0)
+      ap (λ (t : Bool). if t then clashing (record { first = 1; second = 2 }) (ranked (clash_of a b)) else (Ok tt)) (lt-ltb (clash_of a b) ranks few)
+      ∙ ap (clashing (record { first = 1; second = 2 })) (ap ranked same ∙ ranked_rank x m.0)
     where
       at_most : clash_of a b ≤ rank x
       at_most = lower Both x m.0 (ap (λ (t : Bool). both t (meets b (number_at x))) m.1 ∙ m.2)
@@ -141,7 +142,7 @@ row_seven =
 abbrev pub pack_few : List Rule
 pack_few = rule One (relation 110 0 false 1 1) ∷ rule Few (relation 110 0 false 2 4) ∷ []
 
-pub row_few : check_of pack_few ≡ Passes
+pub row_few : check_of pack_few ≡ Ok tt
 row_few = apart_passes pack_few apart
   where
     apart : (i j : ℕ) → i < j → j < 2 → Apart (rule_at pack_few i) (rule_at pack_few j)

@@ -1,6 +1,9 @@
 -- The pack check, as a search over all admitted numbers in document 01's order. It is never run: specs/Fast.antt has the search that is.
+use Rattle.check_laws.specs.declared.Clash.{Clash}
+use Rattle.std.specs.Prelude.{Result, Ok, Err}
 use Rattle.std.specs.Prelude.{Bool, false, List, [], ◌∷◌, ℕ, suc, ◌+◌, ◌*◌, ◌/◌, ◌%◌, ◌^◌, leb, ltb, eqb, if◌then◌else◌}
 use Rattle.decimal.specs.Choice.{both}
+use Rattle.answer.specs.declared.Pair.{Pair}
 use Rattle.answer.specs.declared.Witness.{Witness}
 use Rattle.number.specs.Limits.{max_exponent, max_digits, max_places}
 use Rattle.number.specs.Admitted.{number_from}
@@ -8,8 +11,6 @@ use Rattle.number.specs.declared.Number.{Number}
 use Rattle.pack_rules.specs.Syntax.{Rule}
 use Rattle.meaning.specs.Meaning.{meets}
 use Rattle.check_laws.specs.Seek.{seek}
-use Rattle.check_laws.specs.declared.Checked.{Checked}
-use Rattle.check_laws.specs.declared.Checked.TheVariants.{Passes, Clashes}
 
 -- ---- the admitted numbers, as e, v, i and f
 
@@ -64,19 +65,23 @@ abbrev pub clash_of : Rule → Rule → ℕ
 clash_of a b = least_rank (λ (x : Number). both (meets a x) (meets b x))
 
 -- the answer at the pair p, q, where k is the rank of its least number
-abbrev pub named : ℕ → ℕ → ℕ → Checked → Checked
-named p q k rest = if ltb k ranks then Clashes (record { first = p; second = q }) (ranked k) else rest
+-- the answer that names two rules and a number that meets both
+abbrev pub clashing : Pair → Witness → Result (Unit {0}) Clash
+clashing pair x = Err (record { pair = pair; witness = x })
+
+abbrev pub named : ℕ → ℕ → ℕ → Result (Unit {0}) Clash → Result (Unit {0}) Clash
+named p q k rest = if ltb k ranks then clashing (record { first = p; second = q }) (ranked k) else rest
 
 -- the rule a at place p against those that follow, of which the first is at place q
-unfoldable pub against : (Rule → Rule → ℕ) → ℕ → ℕ → Rule → List Rule → Checked → Checked
+unfoldable pub against : (Rule → Rule → ℕ) → ℕ → ℕ → Rule → List Rule → Result (Unit {0}) Clash → Result (Unit {0}) Clash
 against L p q a [] rest = rest
 against L p q a (b ∷ bs) rest = named p q (L a b) (against L p (suc q) a bs rest)
 
 -- "the lowest first rule, then the lowest second": the rules from place p on
-unfoldable pub first_pair : (Rule → Rule → ℕ) → ℕ → List Rule → Checked
-first_pair L p [] = Passes
+unfoldable pub first_pair : (Rule → Rule → ℕ) → ℕ → List Rule → Result (Unit {0}) Clash
+first_pair L p [] = Ok tt
 first_pair L p (a ∷ bs) = against L p (suc p) a bs (first_pair L (suc p) bs)
 
 -- "places counted from 1 in the text with `other` counted"
-abbrev pub check_of : List Rule → Checked
+abbrev pub check_of : List Rule → Result (Unit {0}) Clash
 check_of rs = first_pair clash_of 1 rs

@@ -1,4 +1,6 @@
 -- What is claimed of the check's answer, in document 01's words.
+use Rattle.check_laws.specs.declared.Clash.{Clash}
+use Rattle.std.specs.Prelude.{Result, Ok, Err}
 use Rattle.std.specs.Prelude.{◌≡◌, true, List, [], ◌⊎◌, ℕ, ◌+◌, ◌<◌, length, get_or}
 use Rattle.answer.specs.declared.Keyword.TheVariants.{Other}
 use Rattle.answer.specs.declared.Witness.{Witness}
@@ -6,8 +8,6 @@ use Rattle.number.specs.Admitted.{Admitted}
 use Rattle.pack_rules.specs.Syntax.{Rule}
 use Rattle.meaning.specs.Meaning.{meets}
 use Rattle.check_laws.specs.Check.{number_at}
-use Rattle.check_laws.specs.declared.Checked.{Checked}
-use Rattle.check_laws.specs.declared.Checked.TheVariants.{Passes, Clashes}
 
 abbrev pub IsAdmitted : Witness → Type 0
 IsAdmitted x = Admitted x.e x.v.0 x.i x.f.0
@@ -46,6 +46,6 @@ pub record Lowest (rs : List Rule) (i j : ℕ) (x : Witness) : Type 0 where
   pub first : (k l : ℕ) → k < l → l < length rs → (k < i) ⊎ ((k ≡ i) × (l < j)) → Apart (rule_at rs k) (rule_at rs l)
 
 -- what an answer claims of the rules that stand from place p on
-abbrev pub Claims : ℕ → List Rule → Checked → Type 0
-Claims p rs Passes = AllApart rs
-Claims p rs (Clashes pair x) = (i : ℕ) × (j : ℕ) × (pair.first ≡ p + i) × (pair.second ≡ p + j) × Lowest rs i j x
+abbrev pub Claims : ℕ → List Rule → Result (Unit {0}) Clash → Type 0
+Claims p rs (Ok tt) = AllApart rs
+Claims p rs (Err c) = (i : ℕ) × (j : ℕ) × (c.pair.first ≡ p + i) × (c.pair.second ≡ p + j) × Lowest rs i j c.witness

@@ -1,5 +1,7 @@
 -- The search that is run: the least admitted number that meets a condition. Where e, v and w are given, each relation is settled, or is a test of i, or
 -- one of t, where f = t * 10 ^ (v - w) and t does not end in 0 unless it is 0. So the least i and the least t of a clause are searched for apart.
+use Rattle.check_laws.specs.declared.Clash.{Clash}
+use Rattle.std.specs.Prelude.{Result}
 use Rattle.std.specs.Prelude.{Bool, true, false, not, List, [], ◌∷◌, ◌++◌, ℕ, zero, suc, ◌+◌, ◌-◌, ◌*◌, ◌/◌, ◌%◌, ◌^◌, min, leb, ltb, eqb, if◌then◌else◌}
 use Rattle.decimal.specs.Choice.{both, either}
 use Rattle.decimal.specs.Lists.{all, any}
@@ -8,7 +10,6 @@ use Rattle.pack_rules.specs.Syntax.{Relation, Rule}
 use Rattle.meaning.specs.Meaning.{in_range}
 use Rattle.check_laws.specs.Seek.{seek}
 use Rattle.check_laws.specs.Check.{lowest, block, ranks, first_pair}
-use Rattle.check_laws.specs.declared.Checked.{Checked}
 pub use Rattle.check_laws.specs.declared.Query.{Query}
 
 -- ---- a relation at a whole value of its operand
@@ -186,5 +187,5 @@ both_of (c ∷ cs) ds = with_each c ds ++ both_of cs ds
 abbrev pub fast_clash : Rule → Rule → ℕ
 fast_clash a b = fast_rank (both_of a.clauses b.clauses)
 
-abbrev pub fast_check : List Rule → Checked
+abbrev pub fast_check : List Rule → Result (Unit {0}) Clash
 fast_check rs = first_pair fast_clash 1 rs

@@ -1,4 +1,4 @@
-// What the pack check answers, and the laws of its search. There are types and limits here and no function.
+// What the pack check answers, and the laws of its search. There are types and limits here.
 //
 // specs/Check.antt is the definition, a search over all admitted numbers in document 01's order;
 // specs/Fast.antt is the search that is run, part by part, and proofs/FastIs.antt shows that they agree;
@@ -9,13 +9,41 @@
 
 pub mod limits;
 
+ghost use Rattle.std.specs.Prelude.{◌≡◌, ◌+◌, ◌<◌};
+ghost use Rattle.pack_rules.specs.Room.{rule_room};
+
 use answer::{Pair, Witness};
 use decimal::Places;
 
+// Two rules that one admitted number meets, and that number.
 #[derive(Clone, Copy, PartialEq, Eq)]
-pub enum Checked {
-    Passes,
-    Clashes(Pair, Witness),
+pub struct Clash {
+    pub pair: Pair,
+    pub witness: Witness,
+}
+
+impl Clash {
+    // That of the rules at the indices p and q, which a pair counts from 1.
+    pub fn of_rules(p: usize, q: usize, witness: Witness) -> Clash
+        requires { (p < rule_room) × (q < rule_room) }
+        ensures { result ≡ record { pair = record { first = p + 1; second = q + 1 }; witness = witness } }
+    {
+        Clash {
+            pair: Pair {
+                first: (p + 1) as u8,
+                second: (q + 1) as u8,
+            },
+            witness,
+        }
+    }
+}
+
+// The first rule behind a rule that clashes with it, and the number that meets both; `at` is past the
+// rules where none does.
+#[derive(Clone, Copy)]
+pub struct LaterClash {
+    pub at: usize,
+    pub spot: Witness,
 }
 
 // A search for a number x: n, i, f and t are each x times their factor, or no part of the search where

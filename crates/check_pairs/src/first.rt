@@ -1,5 +1,5 @@
 // The first rule behind a rule that clashes with it, and the answer made of it.
-ghost use Rattle.std.specs.Prelude.{◌≡◌, Bool, List, ℕ, suc, ◌+◌, ◌-◌, ◌≤◌, ◌<◌};
+ghost use Rattle.std.specs.Prelude.{Result, ◌≡◌, Bool, List, ℕ, suc, ◌+◌, ◌-◌, ◌≤◌, ◌<◌};
 ghost use Rattle.number.specs.Limits.{max_exponent};
 ghost use Rattle.check_laws.specs.Check.{against, first_pair};
 ghost use Rattle.check_laws.specs.Fast.{fast_clash};
@@ -10,10 +10,9 @@ ghost use Rattle.pack_rules.specs.Stretch.{stretch, table_of};
 ghost use Rattle.check_laws.specs.Read.{bare_rule};
 ghost use Rattle.check_laws.specs.Spots.{Proper, answered};
 
-use crate::{Clash, joined};
-use answer::{Pair, Witness};
+use crate::joined;
 use check_clauses::{ClauseFloors, PerClause};
-use check_laws::{Checked, limits};
+use check_laws::{Clash, LaterClash, limits};
 use check_places::order;
 use pack_rules::Pack;
 
@@ -24,37 +23,30 @@ pub fn later_clash(
     profiles: &PerClause,
     p: usize,
     n: usize,
-) -> Clash
+) -> LaterClash
     requires p_lt_n { (p < n) × (n ≤ rule_room) × Floored (table_of pack.now) pack.now.relations floors.now.whole floors.now.part floors.now.tail }
     requires profiled_rules { ProfiledRules (table_of pack.now) pack.now.relations pack.now.clauses n profiles.now }
-    ensures { ((rest : Checked) → against fast_clash (p + 1) (p + 1 + 1) (bare_rule (table_of pack.now) pack.now.relations pack.now.clauses p) (stretch (bare_rule (table_of pack.now) pack.now.relations pack.now.clauses) (p + 1) (n - (p + 1))) rest ≡ answered p n result.at result.spot rest) × (result.at < n → result.spot.e ≤ max_exponent) × Proper result.spot }
+    ensures { ((rest : Result (Unit {0}) Clash) → against fast_clash (p + 1) (p + 1 + 1) (bare_rule (table_of pack.now) pack.now.relations pack.now.clauses p) (stretch (bare_rule (table_of pack.now) pack.now.relations pack.now.clauses) (p + 1) (n - (p + 1))) rest ≡ answered p n result.at result.spot rest) × (result.at < n → result.spot.e ≤ max_exponent) × Proper result.spot }
 {
     for q in p + 1..n {
         let spot = joined::pair_spot(pack, floors, profiles, p, q);
         if spot.e < limits::NO_EXPONENT {
-            return Clash { at: q, spot };
+            return LaterClash { at: q, spot };
         }
     }
-    Clash {
+    LaterClash {
         at: n,
         spot: order::nowhere(),
     }
 }
 
-// The answer for the rules p and q and the number found.
-pub fn clashes(p: usize, q: usize, s: Witness) -> Checked
-    requires { (p < rule_room) × (q < rule_room) }
-    ensures { result ≡ Checked.Clashes (record { first = p + 1; second = q + 1 }) s }
-{
-    let pair = Pair {
-        first: (p + 1) as u8,
-        second: (q + 1) as u8,
-    };
-    Checked::Clashes(pair, s)
-}
-
 // The first pair among the first n rules, with its least number.
-pub fn first_pair(pack: &Pack, floors: &ClauseFloors, profiles: &PerClause, n: usize) -> Checked
+pub fn first_pair(
+    pack: &Pack,
+    floors: &ClauseFloors,
+    profiles: &PerClause,
+    n: usize,
+) -> Result<(), Clash>
     requires n_le_rule_room { (n ≤ rule_room) × Floored (table_of pack.now) pack.now.relations floors.now.whole floors.now.part floors.now.tail }
     requires profiled_rules { ProfiledRules (table_of pack.now) pack.now.relations pack.now.clauses n profiles.now }
     ensures { result ≡ first_pair fast_clash (0 + 1) (stretch (bare_rule (table_of pack.now) pack.now.relations pack.now.clauses) 0 (n - 0)) }
@@ -62,8 +54,8 @@ pub fn first_pair(pack: &Pack, floors: &ClauseFloors, profiles: &PerClause, n: u
     for k in 0..n {
         let c = later_clash(pack, floors, profiles, k, n);
         if c.at < n {
-            return clashes(k, c.at, c.spot);
+            return Err(Clash::of_rules(k, c.at, c.spot));
         }
     }
-    Checked::Passes
+    Ok(())
 }

@@ -12,22 +12,13 @@ ghost use Rattle.std.specs.Prelude.{◌≡◌, min};
 ghost use Rattle.pack_rules.specs.Held.{held_rules};
 ghost use Rattle.check_laws.specs.Check.{check_of};
 
-use answer::Witness;
 use check_clauses::ends::clauses_end;
 use check_clauses::{ClauseFloors, PerClause, floors as clause_floors, profiled};
-use check_laws::Checked;
+use check_laws::Clash;
 use pack_rules::{CLAUSE_ROOM, Pack, RULE_ROOM};
 
-// The first rule behind a rule that clashes with it, and the number; `at` is past the rules where none
-// does.
-#[derive(Clone, Copy)]
-pub struct Clash {
-    pub at: usize,
-    pub spot: Witness,
-}
-
 // The check of the first `count` rules in a parsed pack's arrays.
-pub fn check(pack: &Pack) -> Checked
+pub fn check(pack: &Pack) -> Result<(), Clash>
     ensures { result ≡ check_of (held_rules pack.now) }
 {
     let n = pack.count.min(RULE_ROOM);

@@ -13,11 +13,11 @@ ghost use Rattle.std.specs.Prelude.{◌≡◌, min};
 ghost use Rattle.pack_rules.specs.Held.{held_rules};
 ghost use Rattle.check_laws.specs.Check.{check_of};
 
-use check_laws::Checked;
+use check_laws::Clash;
 use pack_rules::{Pack, RULE_ROOM};
 
 // The check of the first `count` rules in a parsed pack's arrays.
-pub fn check(pack: &Pack) -> Checked
+pub fn check(pack: &Pack) -> Result<(), Clash>
     ensures { result ≡ check_of (held_rules pack.now) }
 {
     let n = pack.count.min(RULE_ROOM);

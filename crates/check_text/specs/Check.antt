@@ -1,4 +1,6 @@
 -- The check of a pack's text: its refusal, or that of its rules. Document 01: "A passed pack is one the check doesn't refuse."
+use Rattle.check_laws.specs.declared.Clash.{Clash}
+use Rattle.std.specs.Prelude.{Result, Ok, Err}
 use Rattle.answer.specs.declared.Refusal.{Refusal}
 use Rattle.std.specs.Prelude.{Err, Ok, Result, List, ℕ}
 use Rattle.answer.specs.declared.Refusal.TheVariants.{Rules as OfRules}
@@ -6,13 +8,11 @@ use Rattle.answer.specs.declared.RulesRow.TheVariants.{RulesClash}
 use Rattle.pack_grammar.specs.Reader.{PackAnswer, read_pack}
 use Rattle.pack_grammar.specs.Reader.PackAnswer.{Rules, Refused as PackRefused}
 use Rattle.check_laws.specs.Check.{check_of}
-use Rattle.check_laws.specs.declared.Checked.{Checked}
-use Rattle.check_laws.specs.declared.Checked.TheVariants.{Passes as RulesPass, Clashes}
 
 -- 27 "two rules met: pair; from the check also e v i f"
-abbrev pub checked_by : Checked → Result (Unit {0}) Refusal
-checked_by RulesPass = Ok tt
-checked_by (Clashes pair x) = Err (OfRules (RulesClash pair x))
+abbrev pub checked_by : Result (Unit {0}) Clash → Result (Unit {0}) Refusal
+checked_by (Ok tt) = Ok tt
+checked_by (Err c) = Err (OfRules (RulesClash c.pair c.witness))
 
 abbrev pub check_rules : PackAnswer → Result (Unit {0}) Refusal
 check_rules (Rules rules) = checked_by (check_of rules)

@@ -6,29 +6,21 @@ ghost use Rattle.std.specs.Prelude.{◌≡◌};
 ghost use Rattle.check_text.specs.Check.{checked_by, check_pack};
 
 use answer::{Refusal, RulesRow};
-use check_laws::Checked;
-use pack_rules::Pack;
-use pack_verdict::Read;
+use check_laws::Clash;
 
-fn checked_by(c: Checked) -> Result<(), Refusal>
-    ensures { result ≡ checked_by c }
+fn refusal_of(clash: Clash) -> Refusal
+    ensures { result ≡ Refusal.Rules (RulesRow.RulesClash clash.pair clash.witness) }
 {
-    match c {
-        Checked::Passes => Ok(()),
-        Checked::Clashes(pair, x) => Err(Refusal::Rules(RulesRow::RulesClash(pair, x))),
-    }
+    Refusal::Rules(RulesRow::RulesClash(clash.pair, clash.witness))
 }
 
 // A pack that has to be read, into arrays that stand here and are lent from here.
 fn check_read(pack: &[u8]) -> Result<(), Refusal>
     ensures { result ≡ check_pack pack.now }
 {
-    let mut pack = pack_rules::empty();
-    let read = pack_reader::read_pack(pack, &mut pack);
-    match read {
-        Ok(count) => checked_by(check_pairs::check(&pack)),
-        Err(refusal) => Err(refusal),
-    }
+    let mut held = pack_rules::empty();
+    pack_reader::read_pack(pack, &mut held)?;
+    check_pairs::check(&held).map_err(refusal_of)
 }
 
 // The pack that is `other:` alone has no two rules to meet, and passes unread.

@@ -1,6 +1,9 @@
 -- Demand 3: "The pack check passes exactly when no admitted number meets two rules; otherwise it names the first pair and the least number. Shuffling
 -- a passed pack changes no answer; adding rules changes only words that were "other"." Stated on bytes, over the definitions that the contracts of
 -- `check_text::check` and `select_text::select` cite.
+use Rattle.check_laws.specs.declared.Clash.{Clash}
+use Rattle.check_laws.specs.Check.{clashing}
+use Rattle.std.specs.Prelude.{Result, Ok, Err}
 use Rattle.std.specs.Prelude.{Err, Ok, Result}
 use Rattle.answer.specs.declared.Keyword.{Keyword}
 use Rattle.answer.specs.declared.Refusal.{Refusal}
@@ -32,8 +35,6 @@ use Rattle.select.specs.Words.{MeetsAt}
 use Rattle.select.proofs.Chosen.{counted, behind_counted, first_le, first_meets, second_meets, met_sign}
 use Rattle.check_laws.specs.Check.{number_at, check_of}
 use Rattle.check_laws.specs.Claims.{IsAdmitted, AllApart, Lowest, Claims}
-use Rattle.check_laws.specs.declared.Checked.{Checked}
-use Rattle.check_laws.specs.declared.Checked.TheVariants.{Passes as RulesPass, Clashes}
 use Rattle.check_laws.proofs.Claimed.{check_claims, passes_apart, apart_passes}
 use Rattle.check_text.specs.Check.{checked_by, check_pack}
 use Rattle.select_text.specs.Select.{select_number, select_of}
@@ -47,9 +48,9 @@ use Rattle.demands.proofs.Counts.{met, word_met, selected, met_perm, word_perm, 
 passing : (pack : List ℕ) (rules : List Rule) → read_pack pack ≡ Rules rules → Passed pack ↔ AllApart rules
 passing pack rules e = (λ p. passes_apart rules (unchecked (check_of rules) (rw e at p)), λ h. rw (e, apart_passes rules h))
   where
-    unchecked : (c : Checked) → checked_by c ≡ Ok tt → c ≡ RulesPass
-    unchecked RulesPass q = refl
-    unchecked (Clashes pair x) q = never (cc)
+    unchecked : (c : Result (Unit {0}) Clash) → checked_by c ≡ Ok tt → c ≡ Ok tt
+    unchecked (Ok tt) q = refl
+    unchecked (Err c) q = never (cc)
 
 pub passes_exactly : (pack : List ℕ) (rules : List Rule) → PackVerdict pack (Rules rules) → Passed pack ↔ AllApart rules
 passes_exactly pack rules v = passing pack rules (pack_given pack v)
@@ -61,9 +62,9 @@ pub names_the_first : (pack : List ℕ) (rules : List Rule) (pair : Pair) (x : W
     → (i : ℕ) × (j : ℕ) × (pair.first ≡ 1 + i) × (pair.second ≡ 1 + j) × Lowest rules i j x
 names_the_first pack rules pair x v c = subst (Claims 1 rules) (clashed (check_of rules) (rw (pack_given pack v) at c)) (check_claims rules)
   where
-    clashed : (r : Checked) → checked_by r ≡ Err (OfRules (RulesClash pair x)) → r ≡ Clashes pair x
-    clashed RulesPass q = never (cc)
-    clashed (Clashes p y) q = cc
+    clashed : (r : Result (Unit {0}) Clash) → checked_by r ≡ Err (OfRules (RulesClash pair x)) → r ≡ clashing pair x
+    clashed (Ok tt) q = never (cc)
+    clashed (Err c) q = cc
 
 -- a pack that is read and does not pass gets 27: no other refusal is left
 pub else_27 : (pack : List ℕ) (rules : List Rule) → PackVerdict pack (Rules rules) → (Passed pack → ⊥) → (pair : Pair) × ((x : Witness) × (check_pack pack ≡ Err (OfRules (RulesClash pair x))))
@@ -72,9 +73,9 @@ else_27 pack rules v n = by (check_of rules) refl
     e : read_pack pack ≡ Rules rules
     e = pack_given pack v
 
-    by : (c : Checked) → check_of rules ≡ c → (pair : Pair) × ((x : Witness) × (check_pack pack ≡ Err (OfRules (RulesClash pair x))))
-    by RulesPass q = absurd (n (rw (e, q)))
-    by (Clashes pair x) q = (pair, (x, rw (e, q)))
+    by : (c : Result (Unit {0}) Clash) → check_of rules ≡ c → (pair : Pair) × ((x : Witness) × (check_pack pack ≡ Err (OfRules (RulesClash pair x))))
+    by (Ok tt) q = absurd (n (rw (e, q)))
+    by (Err c) q = (c.pair, (c.witness, rw (e, q)))
 
 -- ---- at most one rule is met, of a passed pack
 

@@ -1,5 +1,8 @@
 -- The verdicts of specs/Verdicts.antt are those of the definitions that the entries' contracts cite: `..-given`, no other verdict can be had, and
 -- `..-found`, one always is.
+use Rattle.check_laws.specs.declared.Clash.{Clash}
+use Rattle.check_laws.specs.Check.{clashing}
+use Rattle.std.specs.Prelude.{Result, Ok, Err}
 use Rattle.std.specs.Prelude.{Err, Ok, Result}
 use Rattle.answer.specs.declared.Keyword.{Keyword}
 use mathlib.Core.Path.{◌≡◌, refl, sym, ap, ◌∙◌, subst, fun_ext}
@@ -35,8 +38,6 @@ use Rattle.select.proofs.Chosen.{told, only_told}
 use Rattle.select_text.specs.Select.{select_number, select_rules, select_of}
 use Rattle.check_laws.specs.Check.{check_of}
 use Rattle.check_laws.specs.Claims.{Before, Claims, Lowest}
-use Rattle.check_laws.specs.declared.Checked.{Checked}
-use Rattle.check_laws.specs.declared.Checked.TheVariants.{Passes as RulesPass, Clashes}
 use Rattle.check_laws.proofs.Claimed.{check_claims, apart_passes}
 use Rattle.check_text.specs.Check.{checked_by, check_rules, check_pack}
 use Rattle.symbols.specs.declared.Symbol.{Symbol}
@@ -211,17 +212,17 @@ module _ (rules : List Rule) where
       let q = same_second a b in
       same_least a (rw (sym p, sym q) at b)
 
-  lowest_only : (i j : ℕ) (pair : Pair) (x : Witness) → pair.first ≡ 1 + i → pair.second ≡ 1 + j → Lowest rules i j x → (c : Checked) → Claims 1 rules c
-      → c ≡ Clashes pair x
-  lowest_only i j pair x a b w RulesPass h = absurd (h i j w.order w.inside x w.met)
-  lowest_only i j pair x a b w (Clashes other y) (k, l, d, e, v) =
-      let p : other.first ≡ pair.first = d ∙ ap (λ (n : ℕ). 1 + n) (sym (same_first w v)) ∙ sym a in
-      let q : other.second ≡ pair.second = e ∙ ap (λ (n : ℕ). 1 + n) (sym (same_second w v)) ∙ sym b in
-      rw (sym (same_number w v)) (paired other pair p q)
+  lowest_only : (i j : ℕ) (pair : Pair) (x : Witness) → pair.first ≡ 1 + i → pair.second ≡ 1 + j → Lowest rules i j x → (c : Result (Unit {0}) Clash) → Claims 1 rules c
+      → c ≡ clashing pair x
+  lowest_only i j pair x a b w (Ok tt) h = absurd (h i j w.order w.inside x w.met)
+  lowest_only i j pair x a b w (Err c) (k, l, d, e, v) =
+      let p : c.pair.first ≡ pair.first = d ∙ ap (λ (n : ℕ). 1 + n) (sym (same_first w v)) ∙ sym a in
+      let q : c.pair.second ≡ pair.second = e ∙ ap (λ (n : ℕ). 1 + n) (sym (same_second w v)) ∙ sym b in
+      rw (sym (same_number w v)) (paired c.pair pair p q)
     where
-      paired : (m n : Pair) → m.first ≡ n.first → m.second ≡ n.second → Clashes m x ≡ Clashes n x
+      paired : (m n : Pair) → m.first ≡ n.first → m.second ≡ n.second → clashing m x ≡ clashing n x
       paired m n f g =
-          ap (λ (a : ℕ). Clashes (record { first = a; second = m.second }) x) f ∙ ap (λ (b : ℕ). Clashes (record { first = n.first; second = b }) x) g
+          ap (λ (a : ℕ). clashing (record { first = a; second = m.second }) x) f ∙ ap (λ (b : ℕ). clashing (record { first = n.first; second = b }) x) g
 
 pub check_given : (pack : List ℕ) {c : Result (Unit {0}) Refusal} → CheckVerdict pack c → check_pack pack ≡ c
 check_given pack (check-by-pack r p) = rw (pack_given pack p)
@@ -231,9 +232,9 @@ check_given pack (clashes rules i j pair x p a b l) = rw (pack_given pack p) (ap
 pub check_found : (pack : List ℕ) → CheckVerdict pack (check_pack pack)
 check_found pack = by_answer (read_pack pack) refl
   where
-    by_claims : (rules : List Rule) → read_pack pack ≡ Rules rules → (c : Checked) → Claims 1 rules c → CheckVerdict pack (checked_by c)
-    by_claims rules e RulesPass h = passes rules (subst (PackVerdict pack) e (pack_found pack)) h
-    by_claims rules e (Clashes pair x) (i, j, a, b, l) = clashes rules i j pair x (subst (PackVerdict pack) e (pack_found pack)) a b l
+    by_claims : (rules : List Rule) → read_pack pack ≡ Rules rules → (c : Result (Unit {0}) Clash) → Claims 1 rules c → CheckVerdict pack (checked_by c)
+    by_claims rules e (Ok tt) h = passes rules (subst (PackVerdict pack) e (pack_found pack)) h
+    by_claims rules e (Err c) (i, j, a, b, l) = clashes rules i j c.pair c.witness (subst (PackVerdict pack) e (pack_found pack)) a b l
 
     by_answer : (a : PackAnswer) → read_pack pack ≡ a → CheckVerdict pack (check_rules a)
     by_answer (Rules rules) e = by_claims rules e (check_of rules) (check_claims rules)

@@ -1,4 +1,7 @@
 -- The two engines of the pack check agree, and answers that are told to be the same are equal.
+use Rattle.check_laws.specs.declared.Clash.{Clash}
+use Rattle.check_laws.specs.Check.{clashing}
+use Rattle.std.specs.Prelude.{Result, Ok, Err}
 use mathlib.Core.Path.{◌≡◌, refl, sym, ap₂, subst, ◌∙◌}
 use mathlib.Core.Bool.{Bool, true, false, true≢false}
 use mathlib.Core.Logic.{◌↔◌}
@@ -11,12 +14,10 @@ use Rattle.answer.specs.declared.Witness.{Witness}
 use Rattle.pack_rules.specs.declared.Pack.{Pack}
 use Rattle.pack_rules.specs.Held.{held_rules}
 use Rattle.check_laws.specs.Check.{check_of}
-use Rattle.check_laws.specs.declared.Checked.{Checked}
-use Rattle.check_laws.specs.declared.Checked.TheVariants.{Passes, Clashes}
 use Rattle.engines_table.specs.Same.{same_pair, same_number, same_answer}
 
 -- For every pack, what `check_pairs::check` returns and what `check_plain::check` returns are equal: each is what its contract says.
-pub engines_agree : (p : Pack) (fast plain : Checked) → fast ≡ check_of (held_rules p) → plain ≡ check_of (held_rules p) → fast ≡ plain
+pub engines_agree : (p : Pack) (fast plain : Result (Unit {0}) Clash) → fast ≡ check_of (held_rules p) → plain ≡ check_of (held_rules p) → fast ≡ plain
 engines_agree p fast plain f g = f ∙ sym g
 
 -- ---- tests in turn
@@ -54,17 +55,17 @@ number_is x y e =
 own : (a : ℕ) → eqb a a ≡ true
 own a = eq-eqb a a refl
 
-self : (a : Checked) → same_answer a a ≡ true
-self Passes = refl
-self (Clashes pair x) = rw (own pair.first, own pair.second, own x.e, own x.v.0, own x.i, own x.f.0)
+self : (a : Result (Unit {0}) Clash) → same_answer a a ≡ true
+self (Ok tt) = refl
+self (Err c) = rw (own c.pair.first, own c.pair.second, own c.witness.e, own c.witness.v.0, own c.witness.i, own c.witness.f.0)
 
-equal : (a b : Checked) → same_answer a b ≡ true → a ≡ b
-equal Passes Passes e = refl
-equal Passes (Clashes pair x) e = absurd (true≢false (sym e))
-equal (Clashes pair x) Passes e = absurd (true≢false (sym e))
-equal (Clashes pair x) (Clashes other y) e =
+equal : (a b : Result (Unit {0}) Clash) → same_answer a b ≡ true → a ≡ b
+equal (Ok tt) (Ok tt) e = refl
+equal (Ok tt) (Err c) e = absurd (true≢false (sym e))
+equal (Err c) (Ok tt) e = absurd (true≢false (sym e))
+equal (Err c) (clashing other y) e =
     let h = held (same_pair pair other) (same_number x y) e in
-    ap₂ Clashes (pair_is pair other h.0) (number_is x y h.1)
+    ap₂ clashing (pair_is pair other h.0) (number_is x y h.1)
 
-pub same_exactly : (a b : Checked) → (same_answer a b ≡ true) ↔ (a ≡ b)
-same_exactly a b = (equal a b, λ e. subst (λ (c : Checked). same_answer a c ≡ true) e (self a))
+pub same_exactly : (a b : Result (Unit {0}) Clash) → (same_answer a b ≡ true) ↔ (a ≡ b)
+same_exactly a b = (equal a b, λ e. subst (λ (c : Result (Unit {0}) Clash). same_answer a c ≡ true) e (self a))

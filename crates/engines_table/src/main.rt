@@ -19,8 +19,8 @@ use std::io::Read as _;
 // What the two engines answer for one pack.
 #[derive(Clone, Copy)]
 pub struct Answers {
-    pub fast: Checked,
-    pub plain: Checked,
+    pub fast: Result<(), Clash>,
+    pub plain: Result<(), Clash>,
 }
 
 // Both answers: they are equal, for every pack.
@@ -74,30 +74,30 @@ fn same_parts(a: Pair, b: Pair, x: Witness, y: Witness) -> bool
     same_number(x, y)
 }
 
-fn is_pass(c: Checked) -> bool
-    ensures { result ≡ same_answer Checked.Passes c }
+fn is_pass(c: Result<(), Clash>) -> bool
+    ensures { result ≡ same_answer Ok tt c }
 {
     match c {
-        Checked::Passes => true,
-        Checked::Clashes(pair, x) => false,
+        Ok(()) => true,
+        Err(Clash { pair, witness: x }) => false,
     }
 }
 
-fn same_clash(pair: Pair, x: Witness, c: Checked) -> bool
+fn same_clash(pair: Pair, x: Witness, c: Result<(), Clash>) -> bool
     ensures { result ≡ same_clash pair x c }
 {
     match c {
-        Checked::Passes => false,
-        Checked::Clashes(other, y) => same_parts(pair, other, x, y),
+        Ok(()) => false,
+        Err(Clash { pair: other, witness: y }) => same_parts(pair, other, x, y),
     }
 }
 
-fn same_answer(a: Checked, b: Checked) -> bool
+fn same_answer(a: Result<(), Clash>, b: Result<(), Clash>) -> bool
     ensures { result ≡ same_answer a b }
 {
     match a {
-        Checked::Passes => is_pass(b),
-        Checked::Clashes(pair, x) => same_clash(pair, x, b),
+        Ok(()) => is_pass(b),
+        Err(Clash { pair, witness: x }) => same_clash(pair, x, b),
     }
 }
 
@@ -125,10 +125,10 @@ fn print_clash(rt: &impl Print, pair: Pair, x: Witness) -> io::Result<()> {
     print_figure(rt, f.0)
 }
 
-fn print_checked(rt: &impl Print, c: Checked) -> io::Result<()> {
+fn print_checked(rt: &impl Print, c: Result<(), Clash>) -> io::Result<()> {
     match c {
-        Checked::Passes => print_text(rt, b" passes"),
-        Checked::Clashes(pair, x) => print_clash(rt, pair, x),
+        Ok(()) => print_text(rt, b" passes"),
+        Err(Clash { pair, witness: x }) => print_clash(rt, pair, x),
     }
 }
 

@@ -26,38 +26,6 @@ use Rattle.pack_reader.specs.Answer.{read_of, rules_of}
 use Rattle.select.specs.Select.{selection}
 use Rattle.select_text.specs.Select.{select_number, select_rules, select_of}
 
--- what the reader of packs returns, and the rules that it leaves, decide as its answer does
-good : (a : PackAnswer) (v : Result ℕ Refusal) (n : ℕ) (rules : List Rule) (x : Result Number Refusal) → v ≡ read_of a → v ≡ Ok n → rules ≡ rules_of a → select_number rules x ≡ select_rules a x
-good (Rules rs) v n rules x e g r = ap (λ (l : List Rule). select_number l x) r
-good (PackRefused f) v n rules x e g r = never (cc)
-
-pub bad : (a : PackAnswer) (v : Result ℕ Refusal) (f : Refusal) (x : Result Number Refusal) → v ≡ read_of a → v ≡ Err f → Err f ≡ select_rules a x
-bad (Rules rs) v f x e b = never (cc)
-bad (PackRefused g) v f x e b =
-    let same : f ≡ g = cc in
-    ap Err same
-
--- where the pack is read: the number's word, or its refusal
-pub word : (a : PackAnswer) (v : Result ℕ Refusal) (n : ℕ) (rules : List Rule) (x : Number) (r : Result Number Refusal) → v ≡ read_of a → v ≡ Ok n → rules ≡ rules_of a → r ≡ Ok x
-    → selection rules x ≡ select_rules a r
-word a v n rules x r e g h k = ap (select_number rules) (sym k) ∙ good a v n rules r e g h
-
-pub unread : (a : PackAnswer) (v : Result ℕ Refusal) (n : ℕ) (rules : List Rule) (f : Refusal) (r : Result Number Refusal) → v ≡ read_of a → v ≡ Ok n → rules ≡ rules_of a
-    → r ≡ Err f → Err f ≡ select_rules a r
-unread a v n rules f r e g h k = ap (select_number rules) (sym k) ∙ good a v n rules r e g h
-
--- ---- the pack that is `other:` alone
-
--- it gives every number `other`, and what is no number its refusal
-pub bare_word : (x : Number) (r : Result Number Refusal) → r ≡ Ok x → Ok Other ≡ select_number (bare_rule ∷ []) r
-bare_word x r e = sym (ap (select_number (bare_rule ∷ [])) e)
-
-pub bare_unread : (f : Refusal) (r : Result Number Refusal) → r ≡ Err f → Err f ≡ select_number (bare_rule ∷ []) r
-bare_unread f r e = sym (ap (select_number (bare_rule ∷ [])) e)
-
-pub by_bare : (pack : List ℕ) (r : Result Number Refusal) → is_bare pack ≡ true → select_number (bare_rule ∷ []) r ≡ select_rules (read_pack pack) r
-by_bare pack r e = sym (ap (λ (a : PackAnswer). select_rules a r) (bare_read pack e))
-
 -- ---- the order of the tests
 
 -- a refused pack decides, whatever the number

@@ -1,6 +1,7 @@
 -- `check_pairs::first::first_pair` stops at the first rule that one behind it clashes with. Invariant: the answer is that of the rules left.
 use native.Mathlib.Omega.{arith}
-use mathlib.Core.Path.{refl, sym, ◌∙◌}
+use Rattle.std.specs.Prelude.{Err}
+use mathlib.Core.Path.{ap, refl, sym, ◌∙◌}
 use Rattle.pack_rules.specs.Stretch.{table_of}
 use Rattle.check_laws.proofs.Answering.{rules_found, rules_more, rules_end}
 use borrow.Author.Rules.{rules}
@@ -16,8 +17,8 @@ later_clash-c-requires c =
       profiled_rules = c.requires.profiled_rules;
     }
 
-pub clashes-requires : goal.clashes-requires
-clashes-requires c =
+pub of_rules-requires : goal.of_rules-requires
+of_rules-requires c =
     (omega (arith, c.requires.n_le_rule_room.0), omega (arith, c.requires.n_le_rule_room.0))
 
 pub returns-then-c-n : goal.returns-then-c-n
@@ -25,7 +26,7 @@ returns-then-c-n c =
     let a = c.args in
     let T = table_of a.pack.now in
     let r = c.later_clash-c in
-    c.clashes.ensures ∙ sym (c.loop-k.invariant ∙ rules_found T a.pack.now.relations a.pack.now.clauses a.n c.loop-k.k r.result.at r.result.spot (search rules) r.ensures.0 (search rules))
+    ap Err c.of_rules.ensures ∙ sym (c.loop-k.invariant ∙ rules_found T a.pack.now.relations a.pack.now.clauses a.n c.loop-k.k r.result.at r.result.spot (search rules) r.ensures.0 (search rules))
 
 pub loop-k-preserved : goal.loop-k-preserved
 loop-k-preserved c =

@@ -6,4 +6,3 @@ use Rattle.check_pairs.proofs.first.first_pair.Given as goal
 
 abbrev pub invariant-loop-k : goal.invariant-loop-k
 invariant-loop-k l = FromRule (table_of l.pack) l.pack.relations l.pack.clauses l.n 0 ≡ FromRule (table_of l.pack) l.pack.relations l.pack.clauses l.n l.k
-

@@ -9,4 +9,3 @@ use Rattle.check_pairs.proofs.joined.both_spot.Given as goal
 abbrev pub invariant-loop-k : goal.invariant-loop-k
 invariant-loop-k l =
     (min (spot_rank l.best) (fast_rank (both_of (clauses_in (table_of l.pack) l.pack.relations l.k l.to) (clauses_in (table_of l.pack) l.pack.relations l.start l.stop))) ≡ fast_rank (both_of (clauses_in (table_of l.pack) l.pack.relations l.from l.to) (clauses_in (table_of l.pack) l.pack.relations l.start l.stop))) × Proper l.best
-

@@ -9,4 +9,3 @@ use Rattle.check_pairs.proofs.joined.with_each.Given as goal
 abbrev pub invariant-loop-l : goal.invariant-loop-l
 invariant-loop-l l =
     (min (spot_rank l.best) (fast_rank (with_each (clause_at (table_of l.pack) l.pack.relations l.k) (clauses_in (table_of l.pack) l.pack.relations l.l l.to))) ≡ min (spot_rank l.initial.best) (fast_rank (with_each (clause_at (table_of l.pack) l.pack.relations l.k) (clauses_in (table_of l.pack) l.pack.relations l.from l.to)))) × Proper l.best
-

@@ -7,4 +7,3 @@ use Rattle.check_plain.proofs.first.first_pair.Given as goal
 
 abbrev pub invariant-loop-k : goal.invariant-loop-k
 invariant-loop-k l = FromRule clash_of (table_of l.pack) l.pack.relations l.pack.clauses l.n 0 ≡ FromRule clash_of (table_of l.pack) l.pack.relations l.pack.clauses l.n l.k
-

@@ -5,4 +5,3 @@ use Rattle.check_plain.proofs.search.try_all.Given as goal
 
 abbrev pub invariant-loop-e : goal.invariant-loop-e
 invariant-loop-e l = NoneIn (meets_both (table_of l.pack) l.pack.relations l.pack.clauses l.p l.q) 0 (rank_at l.e 0 0 0)
-
