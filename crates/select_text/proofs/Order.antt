@@ -7,7 +7,6 @@ use Prim.Native.Nat.{ℕ, ◌≤◌, ◌<◌}
 use lib.Dec.{eqb}
 use lib.ListN.{length}
 use Rattle.decimal.specs.Digits.{begins, run}
-use Rattle.decimal.proofs.Choices.{never}
 use Rattle.answer.specs.declared.Keyword.TheVariants.{Other}
 use Rattle.answer.specs.declared.Refusal.{Refusal}
 use Rattle.number.specs.Limits.{max_bytes}
@@ -22,9 +21,17 @@ use Rattle.pack_grammar.specs.Reader.{PackAnswer, read_pack}
 use Rattle.pack_grammar.specs.Reader.PackAnswer.{Rules, Refused as PackRefused}
 use Rattle.pack_bare.specs.Bare.{is_bare, bare_rule}
 use Rattle.pack_bare.proofs.Bares.{bare_read}
-use Rattle.pack_reader.specs.Answer.{read_of, rules_of}
 use Rattle.select.specs.Select.{selection}
 use Rattle.select_text.specs.Select.{select_number, select_rules, select_of}
+
+-- ---- the pack that is `other:` alone
+
+-- it gives every number `other`, and what is no number its refusal
+pub bare_word : (pack number : List ℕ) (x : Number) → is_bare pack ≡ true → read_number number ≡ Ok x → Ok Other ≡ select_of pack number
+bare_word pack number x e n = sym (ap (λ (a : PackAnswer). select_rules a (read_number number)) (bare_read pack e) ∙ ap (select_number (bare_rule ∷ [])) n)
+
+pub bare_unread : (pack number : List ℕ) (f : Refusal) → is_bare pack ≡ true → read_number number ≡ Err f → Err f ≡ select_of pack number
+bare_unread pack number f e n = sym (ap (λ (a : PackAnswer). select_rules a (read_number number)) (bare_read pack e) ∙ ap (select_number (bare_rule ∷ [])) n)
 
 -- ---- the order of the tests
 
