@@ -4,7 +4,7 @@ use mathlib.Core.Bool.{true, false}
 use mathlib.Core.List.{List, ◌∷◌}
 use Prim.Native.Nat.{ℕ, suc, ◌+◌, ◌*◌, ◌/◌, ◌%◌, ◌≤◌, ◌<◌}
 use native.Mathlib.Omega.{arith}
-use borrow.Author.Tests.{ne_eqb, eqb-true, lt-ltb, le-ltb, ltb-true, ltb-false}
+use borrow.Author.Tests.{eqb-true, lt-ltb, le-ltb, ltb-true, ltb-false}
 use lib.Dec.{eqb, ltb}
 use lib.ListN.{length, get_or, take, drop}
 use Rattle.std.specs.Prelude.{Option, None, Some, if◌then◌else◌}
@@ -37,42 +37,6 @@ length_bounds n e = tested (ltb n 1) low high
 pub kind_at : (b u : ℕ) → b / 16 ≡ u → 1 ≤ b % 16 → b % 16 < 5 → kind_of b ≡ kind_with u (b % 16)
 unfolding kind_of
 kind_at b u e h k = rw (length_is (b % 16) h k, e)
-
--- kind 71
-pub minimum_at : (b : ℕ) → b ≡ 0x71 → kind_of b ≡ known Minimum 1
-unfolding kind_of
-minimum_at b e = rw e
-
--- the only body length of kinds with the upper half 7
-other_minimum : (n : ℕ) → (n ≡ 1 → ⊥) → kind_with 7 n ≡ None
-other_minimum n h = rw (ne_eqb n 1 h)
-
-other_upper : (u n : ℕ) → (1 ≤ u → u < 7 → ⊥) → (u ≡ 7 → n ≡ 1 → ⊥) → kind_with u n ≡ None
-other_upper u n h k =
-    tested (eqb u 7) (λ e. let q = eqb-true u 7 e in rw q (other_minimum n (k q)))
-    (λ e.
-    rw (
-      ne_eqb u 1 (λ e. h (omega arith) (omega arith)),
-      ne_eqb u 2 (λ e. h (omega arith) (omega arith)),
-      ne_eqb u 3 (λ e. h (omega arith) (omega arith)),
-      ne_eqb u 4 (λ e. h (omega arith) (omega arith)),
-      ne_eqb u 5 (λ e. h (omega arith) (omega arith)),
-      ne_eqb u 6 (λ e. h (omega arith) (omega arith)),
-      e,
-    ))
-
--- every other byte is of no kind
-pub unknown : (b : ℕ) → (1 ≤ b / 16 → b / 16 < 7 → 1 ≤ b % 16 → b % 16 < 5 → ⊥) → (b ≡ 0x71 → ⊥) → kind_of b ≡ None
-unfolding kind_of
-unknown b h z = tested (is_length (b % 16)) yes no
-  where
-    yes : is_length (b % 16) ≡ true → (if is_length (b % 16) then kind_with (b / 16) (b % 16) else None) ≡ None
-    yes e =
-        let n = length_bounds (b % 16) e in
-        rw e (other_upper (b / 16) (b % 16) (λ p q. h p q n.0 n.1) (λ p q. z (omega arith)))
-
-    no : is_length (b % 16) ≡ false → (if is_length (b % 16) then kind_with (b / 16) (b % 16) else None) ≡ None
-    no e = rw e
 
 -- ---- the halves of a byte of a known kind
 

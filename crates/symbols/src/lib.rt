@@ -30,6 +30,7 @@ pub const STANDARD: [u8; 16] = [
 ];
 
 // What a kind byte means: a symbol and its body's length.
+#[tactic(auto, unfolding(crate::specs::Kinds::kind_of))]
 fn kind_of(b: u8) -> Option<(Symbol, usize)>
     ensures { result ≡ kind_of b }
 {
