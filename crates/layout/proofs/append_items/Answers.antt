@@ -1,18 +1,8 @@
 -- `layout::append_items` writes item by item. The invariant: what is left to write, written from the place reached on, gives what the whole gives.
 use native.Mathlib.Omega.{arith}
-use Rattle.area.proofs.Pieces.{start}
 use Rattle.symbols.specs.Entries.{symbol_in, standard_record}
 use Rattle.layout.proofs.Writing.{affix_write}
 use Rattle.layout.proofs.append_items.Goals as goal
-
-pub loop-i-init : goal.loop-i-init
-loop-i-init c = (omega arith, omega arith, omega arith, start _ _ _)
-
-pub overflow_add-i : goal.overflow_add-i
-overflow_add-i c = omega (arith, c.token_in-t.ensures.le_width c.loop-i-test.true)
-
-pub loop-i-smaller : goal.loop-i-smaller
-loop-i-smaller c = omega (arith, c.token_in-t.ensures.le_width c.loop-i-test.true)
 
 pub loop-i-preserved : goal.loop-i-preserved
 loop-i-preserved c =
@@ -26,6 +16,3 @@ loop-i-preserved c =
       affix_write (symbol_in a.house.now standard_record) a.s.now l.i l.quoted l.number c.loop-i-test.true t.result t.ensures.value
           l.invariant.2 l.invariant.3 c.quoted_after-quoted.ensures c.is_number-number.ensures x,
     )
-
-pub shape_of-out : goal.shape_of-out
-shape_of-out c = c.loop-i.invariant.3.size
