@@ -13,14 +13,14 @@ use decimal::{DigitValue, Places};
 pub struct Place(pub usize);
 
 // Two rules of a pack, counted from 1.
-#[derive(Clone, Copy)]
+#[derive(Clone, Copy, PartialEq, Eq)]
 pub struct Pair {
     pub first: u8,
     pub second: u8,
 }
 
 // An admitted number, as the check names it.
-#[derive(Clone, Copy)]
+#[derive(Clone, Copy, PartialEq, Eq, PartialOrd, Ord)]
 pub struct Witness {
     pub e: u8,
     pub v: Places,

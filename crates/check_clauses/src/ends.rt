@@ -10,11 +10,9 @@ pub fn clauses_end(pack: &Pack, n: usize) -> usize
     requires { n ≤ rule_room }
     ensures { (result ≤ clause_room) × ((p : ℕ) → p < n → min (get_or pack.now.clauses p 0) clause_room ≤ result) }
 {
-    let mut end: usize = 0;
-    let mut p: usize = 0;
-    while p < n {
+    let mut end = 0;
+    for p in 0..n {
         end = end.max(stop_at(&pack.clauses, p, CLAUSE_ROOM));
-        p += 1;
     }
     end
 }

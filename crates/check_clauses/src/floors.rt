@@ -6,7 +6,6 @@ ghost use Rattle.pack_rules.specs.Stretch.{table_of, clause_at};
 
 use crate::{ClauseFloors, PerClause};
 use check_laws::{Floors, Span};
-use decimal::num::greater;
 use pack_rules::{Pack, RELATION_ROOM, from_at, start_at, stop_at};
 
 // A clause with more ranges is long: a shorter one is searched as quickly as its floors are found.
@@ -17,15 +16,7 @@ fn is_long(pack: &Pack, from: usize, to: usize) -> bool
     requires { to ≤ relation_room }
     ensures { result ≡ long_in pack.now.columns 24 from to }
 {
-    if to <= from {
-        return false;
-    }
-    let start = from_at(pack, from);
-    let end = from_at(pack, to);
-    if end < start {
-        return false;
-    }
-    LONG < end - start
+    from < to && LONG < from_at(pack, to).saturating_sub(from_at(pack, from))
 }
 
 // The floors of the clause j: zeros where it is not long.
@@ -43,8 +34,8 @@ fn clause_floors(pack: &Pack, j: usize) -> Floors
         };
     }
     let s = Span {
-        from: from,
-        to: to,
+        from,
+        to,
         start: 0,
         stop: 0,
     };
@@ -68,12 +59,10 @@ pub fn fill(pack: &Pack, floors: &mut ClauseFloors, to: usize)
     requires { (to ≤ clause_room) × Floored (table_of pack.now) pack.now.relations floors.old.whole floors.old.part floors.old.tail }
     ensures { Floored (table_of pack.now) pack.now.relations floors.new.whole floors.new.part floors.new.tail }
 {
-    let mut j: usize = 0;
-    while j < to {
+    for j in 0..to {
         let l = clause_floors(pack, j);
         floors.whole[j] = l.whole;
         floors.part[j] = l.part;
         floors.tail[j] = l.tail;
-        j += 1;
     }
 }

@@ -16,6 +16,7 @@ use pack_rules::CLAUSE_ROOM;
 pub type PerClause = [u64; CLAUSE_ROOM];
 
 // The floors of a pack's clauses, as crate check_laws has them of one.
+#[derive(Drop)]
 pub struct ClauseFloors {
     pub whole: PerClause,
     pub part: PerClause,

@@ -17,27 +17,12 @@ fn profile_of(pack: &Pack, j: usize) -> u64
     check_profile::clause_profile(pack, from, to)
 }
 
-// Lent as a slice the array has the length that it is declared with.
-fn lent(profiles: &[u64]) {}
-
-// Puts in one profile.
-fn put(profiles: &mut PerClause, j: usize, p: u64)
-    requires { j < clause_room }
-    ensures { (get_or profiles.new j 0 ≡ p) × ((k : ℕ) → (k ≡ j → ⊥) → get_or profiles.new k 0 ≡ get_or profiles.old k 0) }
-{
-    lent(profiles);
-    profiles[j] = p;
-}
-
 // Fills in the profiles of the first `to` clauses.
 pub fn fill(pack: &Pack, profiles: &mut PerClause, to: usize)
     requires { to ≤ clause_room }
     ensures { Profiled (table_of pack.now) pack.now.relations profiles.new to }
 {
-    let mut j: usize = 0;
-    while j < to {
-        let p = profile_of(pack, j);
-        put(profiles, j, p);
-        j += 1;
+    for j in 0..to {
+        profiles[j] = profile_of(pack, j);
     }
 }

@@ -6,7 +6,6 @@ ghost use Rattle.pack_rules.specs.Stretch.{ranges_in, relation_by};
 ghost use Rattle.check_laws.specs.Profile.{values_of, round, reaches, spares, ends_in};
 
 use crate::values::with_bit;
-use decimal::num::{less_by, wide};
 use pack_rules::{Pack, Single};
 
 // Every digit.
@@ -32,12 +31,9 @@ fn digits_from(u: u64, n: u64) -> u64
 fn reached(a: u32, b: u32) -> u64
     ensures { (result ≡ values_of (λ (d : ℕ). reaches d (record { low = a; high = b })) 10) × (result < 1_024) }
 {
-    let u = wide(a) % 10;
-    let n = less_by(wide(b), wide(a));
-    if 9 <= n {
-        return EACH;
-    }
-    digits_from(u, n)
+    let u = u64::from(a) % 10;
+    let n = u64::from(b.saturating_sub(a));
+    if 9 <= n { EACH } else { digits_from(u, n) }
 }
 
 // The digits in one of which ends a number in a range from place `from` to before `to`.
@@ -46,10 +42,8 @@ fn any_reached(pack: &Pack, from: usize, to: usize) -> u64
     ensures { (result ≡ values_of (λ (d : ℕ). any (reaches d) (ranges_in pack.now.low pack.now.high from to)) 10) × (result < 1_024) }
 {
     let mut mask: u64 = 0;
-    let mut k = from;
-    while k < to {
-        mask = mask | reached(pack.low[k], pack.high[k]);
-        k += 1;
+    for k in from..to {
+        mask |= reached(pack.low[k], pack.high[k]);
     }
     mask
 }
@@ -59,10 +53,7 @@ fn is_spared(a: u32, b: u32, m: u32, d: u64) -> bool
     requires { d < 10 }
     ensures { result ≡ spares m d (record { low = a; high = b }) }
 {
-    if d < wide(a) {
-        return true;
-    }
-    wide(b) + 10 < wide(m) + d
+    d < u64::from(a) || u64::from(b) + 10 < u64::from(m) + d
 }
 
 // The digits that it spares.
@@ -71,11 +62,9 @@ fn spared_digits(a: u32, b: u32, m: u32) -> u64
 {
     let mut mask: u64 = 0;
     let mut place: u64 = 1;
-    let mut d: u64 = 0;
-    while d < 10 {
+    for d in 0..10 {
         mask = with_bit(mask, place, is_spared(a, b, m, d));
         place *= 2;
-        d += 1;
     }
     mask
 }
@@ -84,10 +73,11 @@ fn spared_digits(a: u32, b: u32, m: u32) -> u64
 fn spared(a: u32, b: u32, m: u32) -> u64
     ensures { (result ≡ values_of (λ (d : ℕ). spares m d (record { low = a; high = b })) 10) × (result < 1_024) }
 {
-    if wide(b) + 10 < wide(m) {
-        return EACH;
+    if u64::from(b) + 10 < u64::from(m) {
+        EACH
+    } else {
+        spared_digits(a, b, m)
     }
-    spared_digits(a, b, m)
 }
 
 // The digits that each range from place `from` to before `to` spares.
@@ -96,10 +86,8 @@ fn all_spared(pack: &Pack, from: usize, to: usize, m: u32) -> u64
     ensures { (result ≡ values_of (λ (d : ℕ). all (spares m d) (ranges_in pack.now.low pack.now.high from to)) 10) × (result < 1_024) }
 {
     let mut mask = EACH;
-    let mut k = from;
-    while k < to {
-        mask = mask & spared(pack.low[k], pack.high[k], m);
-        k += 1;
+    for k in from..to {
+        mask &= spared(pack.low[k], pack.high[k], m);
     }
     mask
 }

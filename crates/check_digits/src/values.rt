@@ -37,12 +37,10 @@ fn values_of(pack: &Pack, s: Single, n: u64) -> u64
 {
     let mut mask: u64 = 0;
     let mut place: u64 = 1;
-    let mut x: u64 = 0;
-    while x < n {
+    for x in 0..n {
         let on = holds_of(pack, s, x);
         mask = with_bit(mask, place, on);
         place *= 2;
-        x += 1;
     }
     mask
 }
@@ -74,24 +72,14 @@ pub fn zero_of(pack: &Pack, s: Single) -> u64
 fn is_between(b: Bounds, v: Places) -> bool
     ensures { result ≡ from_to b v.0 }
 {
-    let least = b.least;
-    if v.0 < least.0 {
-        return false;
-    }
-    let most = b.most;
-    v.0 <= most.0
+    b.least.0 <= v.0 && v.0 <= b.most.0
 }
 
 // Whether every v is.
 pub fn is_free(b: Bounds) -> bool
     ensures { result ≡ true → (b.least.0 ≡ 0) × (max_places ≤ b.most.0) }
 {
-    let least = b.least;
-    if 0 < least.0 {
-        return false;
-    }
-    let most = b.most;
-    LAST_V <= most.0
+    b.least.0 == 0 && LAST_V <= b.most.0
 }
 
 // Those that are.
@@ -100,12 +88,10 @@ pub fn between(b: Bounds) -> u64
 {
     let mut mask: u64 = 0;
     let mut place: u64 = 1;
-    let mut v: u8 = 0;
-    while v < EVERY_V {
+    for v in 0..EVERY_V {
         let on = is_between(b, Places(v));
         mask = with_bit(mask, place, on);
         place *= 2;
-        v += 1;
     }
     mask
 }

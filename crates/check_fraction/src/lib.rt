@@ -18,7 +18,7 @@ ghost use Rattle.pack_rules.specs.Stretch.{table_of};
 use check_laws::{Bounds, Query, Span, limits};
 use check_least::least_from;
 use check_places::places;
-use decimal::num::{lesser, power};
+use decimal::num::power;
 use pack_rules::Pack;
 
 // The least t before k zeros, by a search; there is none below the least by what is asked of t alone.
@@ -60,7 +60,7 @@ fn tail_at(pack: &Pack, s: Span, k: u64, t: u64, spared: bool) -> u64
     ensures { result ≡ tail_of k (joined_in (table_of pack.now) s) }
 {
     if spared {
-        return lesser(t, power(limits::MAX_PLACES - k));
+        return t.min(power(limits::MAX_PLACES - k));
     }
     tail_of(pack, s, k, t)
 }
@@ -89,13 +89,11 @@ fn least_code(pack: &Pack, s: Span, b: Bounds, vs: u64, ws: u64, t: u64, spared:
     ensures { result ≡ part_code max_places (bounded b (joined_in (table_of pack.now) s)) }
 {
     let mut best: u64 = limits::FRACTIONS;
-    let mut k: u64 = 0;
-    while k < limits::MAX_PLACES {
+    for k in 0..limits::MAX_PLACES {
         if best <= (k + 1) * limits::FRACTION_LIMIT {
             return best;
         }
-        best = lesser(best, tail_code(pack, s, b, vs, ws, k, t, spared));
-        k += 1;
+        best = best.min(tail_code(pack, s, b, vs, ws, k, t, spared));
     }
     best
 }
@@ -119,14 +117,12 @@ fn least_f(pack: &Pack, s: Span) -> u64
 fn zeros_of(f: u64) -> u64
     ensures { (result < max_places) × (f % 10 ^ result ≡ 0) }
 {
-    let mut k: u64 = 0;
-    while k + 1 < limits::MAX_PLACES {
-        if f % power(k + 1) != 0 {
-            return k;
+    for k in 1..limits::MAX_PLACES {
+        if f % power(k) != 0 {
+            return k - 1;
         }
-        k += 1;
     }
-    k
+    limits::MAX_PLACES - 1
 }
 
 // v and f as one number.

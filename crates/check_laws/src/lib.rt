@@ -12,7 +12,7 @@ pub mod limits;
 use answer::{Pair, Witness};
 use decimal::Places;
 
-#[derive(Clone, Copy)]
+#[derive(Clone, Copy, PartialEq, Eq)]
 pub enum Checked {
     Passes,
     Clashes(Pair, Witness),

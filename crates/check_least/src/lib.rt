@@ -15,7 +15,6 @@ ghost use Rattle.check_laws.specs.Ready.{ready, least_in};
 
 use check_laws::limits::FRACTION_LIMIT;
 use check_laws::{Query, Span};
-use decimal::num::greater;
 use pack_rules::{Pack, RELATION_ROOM};
 
 // 10^18: no value that is compared is above it
@@ -25,31 +24,14 @@ const CAP: u64 = 1_000_000_000_000_000_000;
 fn is_ready(s: Span, q: Query, lo: u64, hi: u64) -> bool
     ensures { result ≡ ready s q lo hi }
 {
-    if hi < lo {
-        return false;
-    }
-    if RELATION_ROOM < s.to {
-        return false;
-    }
-    if RELATION_ROOM < s.stop {
-        return false;
-    }
-    if 1 < q.n {
-        return false;
-    }
-    if 1 < q.i {
-        return false;
-    }
-    if 1 < q.t {
-        return false;
-    }
-    if q.f == 0 {
-        return hi <= CAP;
-    }
-    if FRACTION_LIMIT < q.f {
-        return false;
-    }
-    hi <= FRACTION_LIMIT
+    lo <= hi
+        && s.to <= RELATION_ROOM
+        && s.stop <= RELATION_ROOM
+        && q.n <= 1
+        && q.i <= 1
+        && q.t <= 1
+        && q.f <= FRACTION_LIMIT
+        && hi <= if q.f == 0 { CAP } else { FRACTION_LIMIT }
 }
 
 // The least number from lo on and below hi that passes what the clause asks, or hi; hi too where the
@@ -69,7 +51,7 @@ pub fn least_from(pack: &Pack, s: Span, q: Query, lo: u64, floor: u64, hi: u64) 
     requires { NoneBelow q (joined_in (table_of pack.now) s) floor }
     ensures { result ≡ least_in (table_of pack.now) s q lo hi }
 {
-    let from = greater(lo, floor);
+    let from = lo.max(floor);
     if hi <= from {
         return hi;
     }

@@ -31,12 +31,10 @@ fn try_each(pack: &Pack, s: Span, q: Query, lo: u64, hi: u64) -> u64
     requires { Room q hi × (lo ≤ hi) × (s.to ≤ relation_room) × (s.stop ≤ relation_room) }
     ensures { Least (passes_all q (joined_in (table_of pack.now) s)) lo hi result }
 {
-    let mut x = lo;
-    while x < hi {
+    for x in lo..hi {
         if passes_at(pack, s, q, x) {
             return x;
         }
-        x += 1;
     }
     hi
 }
@@ -111,12 +109,10 @@ fn in_table(pack: &Pack, s: Span, q: Query, marks: &LevelMarks, lo: u64, hi: u64
 fn asks_remainder(marks: &LevelMarks) -> bool
     ensures { result ≡ false → (j : ℕ) → j < 7 → get_or marks.now.asked j false ≡ false }
 {
-    let mut j: usize = 0;
-    while j < LEVELS {
+    for j in 0..LEVELS {
         if marks.asked[j] {
             return true;
         }
-        j += 1;
     }
     false
 }

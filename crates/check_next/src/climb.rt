@@ -5,7 +5,6 @@ ghost use Rattle.check_laws.specs.Read.{cap};
 ghost use Rattle.check_next.specs.Table.{room, Small, segments_in, climb_in};
 
 use crate::NextTable;
-use decimal::num::{less_by, wide};
 
 // Where the first segment from place k on starts, or m where there is none before place `to`.
 fn start_from(table: &NextTable, k: usize, to: usize, m: u64) -> u64
@@ -15,7 +14,7 @@ fn start_from(table: &NextTable, k: usize, to: usize, m: u64) -> u64
     if to <= k {
         return m;
     }
-    wide(table.starts[k])
+    u64::from(table.starts[k])
 }
 
 // The same of the segments from place k on, the first of which ends at r or behind it.
@@ -23,11 +22,11 @@ fn up_from(table: &NextTable, k: usize, to: usize, m: u64, r: u64, z: u64) -> u6
     requires { (k < to) × (to ≤ room) × (r ≤ get_or table.now.ends k 0) }
     ensures { result ≡ up_to (segments_in table.now.starts table.now.ends k to) m r z }
 {
-    let start = wide(table.starts[k]);
+    let start = u64::from(table.starts[k]);
     if r <= start {
         return start;
     }
-    if z <= wide(table.ends[k]) {
+    if z <= u64::from(table.ends[k]) {
         return z;
     }
     start_from(table, k + 1, to, m)
@@ -39,12 +38,10 @@ fn up_to(table: &NextTable, from: usize, to: usize, m: u64, r: u64, z: u64) -> u
     requires { to ≤ room }
     ensures { result ≡ up_to (segments_in table.now.starts table.now.ends from to) m r z }
 {
-    let mut k = from;
-    while k < to {
-        if r <= wide(table.ends[k]) {
+    for k in from..to {
+        if r <= u64::from(table.ends[k]) {
             return up_from(table, k, to, m, r, z);
         }
-        k += 1;
     }
     m
 }
@@ -70,6 +67,6 @@ pub fn climb(table: &NextTable, from: usize, to: usize, m: u64, x: u64, y: u64) 
         return y;
     }
     let r = x % m;
-    let o = up_to(table, from, to, m, r, less_by(y, x - r));
+    let o = up_to(table, from, to, m, r, y.saturating_sub(x - r));
     x - r + wrap_round(table, from, to, m, o)
 }

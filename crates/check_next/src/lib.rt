@@ -17,6 +17,7 @@ pub type Segments = [u32; ROOM];
 pub type LevelPlaces = [usize; 8];
 
 // The segments of all levels: where they start and end, and where those of each level begin.
+#[derive(Drop)]
 pub struct NextTable {
     pub starts: Segments,
     pub ends: Segments,
@@ -36,11 +37,9 @@ pub fn next(table: &NextTable, j: usize, x: u64) -> u64
 {
     let mut y = x;
     let mut m: u64 = 1;
-    let mut i: usize = 0;
-    while i < j {
+    for i in 0..j {
         y = climb::climb(table, table.at[i], table.at[i + 1], m, x, y);
         m *= 10;
-        i += 1;
     }
     y
 }

@@ -29,16 +29,16 @@ pub fn later_clash(
     requires profiled_rules { ProfiledRules (table_of pack.now) pack.now.relations pack.now.clauses n profiles.now }
     ensures { ((rest : Checked) → against fast_clash (p + 1) (p + 1 + 1) (bare_rule (table_of pack.now) pack.now.relations pack.now.clauses p) (stretch (bare_rule (table_of pack.now) pack.now.relations pack.now.clauses) (p + 1) (n - (p + 1))) rest ≡ answered p n result.at result.spot rest) × (result.at < n → result.spot.e ≤ max_exponent) × Proper result.spot }
 {
-    let mut q = p + 1;
-    while q < n {
+    for q in p + 1..n {
         let spot = joined::pair_spot(pack, floors, profiles, p, q);
         if spot.e < limits::NO_EXPONENT {
-            return Clash { at: q, spot: spot };
+            return Clash { at: q, spot };
         }
-        q += 1;
     }
-    let none = order::nowhere();
-    Clash { at: n, spot: none }
+    Clash {
+        at: n,
+        spot: order::nowhere(),
+    }
 }
 
 // The answer for the rules p and q and the number found.
@@ -59,13 +59,11 @@ pub fn first_pair(pack: &Pack, floors: &ClauseFloors, profiles: &PerClause, n: u
     requires profiled_rules { ProfiledRules (table_of pack.now) pack.now.relations pack.now.clauses n profiles.now }
     ensures { result ≡ first_pair fast_clash (0 + 1) (stretch (bare_rule (table_of pack.now) pack.now.relations pack.now.clauses) 0 (n - 0)) }
 {
-    let mut k: usize = 0;
-    while k < n {
+    for k in 0..n {
         let c = later_clash(pack, floors, profiles, k, n);
         if c.at < n {
             return clashes(k, c.at, c.spot);
         }
-        k += 1;
     }
     Checked::Passes
 }

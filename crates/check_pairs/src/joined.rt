@@ -32,10 +32,10 @@ fn joined_spot(
     let start = start_at(&pack.relations, l);
     let stop = stop_at(&pack.relations, l, RELATION_ROOM);
     let s = Span {
-        from: from,
-        to: to,
-        start: start,
-        stop: stop,
+        from,
+        to,
+        start,
+        stop,
     };
     let b = Bounds {
         least: Places(0),
@@ -61,11 +61,8 @@ fn with_each(
     ensures { (spot_rank result ≡ min (spot_rank first) (fast_rank (with_each (clause_at (table_of pack.now) pack.now.relations k) (clauses_in (table_of pack.now) pack.now.relations from to)))) × Proper result }
 {
     let mut best = first;
-    let mut l = from;
-    while l < to {
-        let one = joined_spot(pack, floors, profiles, k, l);
-        best = order::earlier(best, one);
-        l += 1;
+    for l in from..to {
+        best = order::earlier(best, joined_spot(pack, floors, profiles, k, l));
     }
     best
 }
@@ -85,10 +82,8 @@ fn both_spot(
     ensures { (spot_rank result ≡ fast_rank (both_of (clauses_in (table_of pack.now) pack.now.relations from to) (clauses_in (table_of pack.now) pack.now.relations start stop))) × Proper result }
 {
     let mut best = order::nowhere();
-    let mut k = from;
-    while k < to {
+    for k in from..to {
         best = with_each(pack, floors, profiles, k, start, stop, best);
-        k += 1;
     }
     best
 }

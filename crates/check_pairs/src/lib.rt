@@ -14,9 +14,9 @@ ghost use Rattle.check_laws.specs.Check.{check_of};
 
 use answer::Witness;
 use check_clauses::ends::clauses_end;
-use check_clauses::{PerClause, floors, profiled};
+use check_clauses::{ClauseFloors, PerClause, floors as clause_floors, profiled};
 use check_laws::Checked;
-use pack_rules::{Pack, RULE_ROOM};
+use pack_rules::{CLAUSE_ROOM, Pack, RULE_ROOM};
 
 // The first rule behind a rule that clashes with it, and the number; `at` is past the rules where none
 // does.
@@ -37,8 +37,8 @@ pub fn check(pack: &Pack) -> Checked
         part: [0; CLAUSE_ROOM],
         tail: [0; CLAUSE_ROOM],
     };
-    let mut profiles: [u64; 40] = [0; 40];
+    let mut profiles: PerClause = [0; CLAUSE_ROOM];
     profiled::fill(pack, &mut profiles, end);
-    floors::fill(pack, &mut floors, end);
+    clause_floors::fill(pack, &mut floors, end);
     first::first_pair(pack, &floors, &profiles, n)
 }

@@ -10,20 +10,19 @@ fn by_digits(digits: u64, floor: u64) -> u64
     ensures { result ≡ (if eqb digits 0 then 10 ^ max_digits else floor) }
 {
     if digits == 0 {
-        return limits::INTEGER_LIMIT;
+        limits::INTEGER_LIMIT
+    } else {
+        floor
     }
-    floor
 }
 
 // The floors, raised by the profile p.
 pub fn raise(p: u64, l: Floors) -> Floors
     ensures { result ≡ raised p l }
 {
-    let whole = by_digits(check_profile::whole_digits(p), l.whole);
-    let part = by_digits(check_profile::part_digits(p), l.part);
     Floors {
-        whole: whole,
-        part: part,
+        whole: by_digits(check_profile::whole_digits(p), l.whole),
+        part: by_digits(check_profile::part_digits(p), l.part),
         tail: l.tail,
     }
 }

@@ -11,6 +11,9 @@ ghost use Rattle.check_laws.specs.Profile.{profile_of, marked, Settled, least_ro
 use check_laws::limits;
 use decimal::num::power;
 
+// How many v there are.
+const PLACES: u64 = limits::MAX_PLACES + 1;
+
 // Whether the bit k is set.
 fn is_marked(m: u64, k: u64) -> bool
     requires { k ≤ max_places }
@@ -24,22 +27,17 @@ fn settled_at(vs: u64, ws: u64, v: u64, w: u64) -> bool
     requires { (v ≤ max_places) × (w ≤ max_places) }
     ensures { (c : List Relation) → Settled c vs ws → result ≡ all (settled_f v w) c }
 {
-    if !is_marked(vs, v) {
-        return false;
-    }
-    is_marked(ws, w)
+    is_marked(vs, v) && is_marked(ws, w)
 }
 
 // Whether a w other than 0 is left with a v that is no less: where none is, f is 0.
 pub fn opens(vs: u64, ws: u64) -> bool
     ensures { result ≡ false → (c : List Relation) → Settled c vs ws → fractions ≡ part_code max_places c }
 {
-    let mut w: u64 = 1;
-    while w <= limits::MAX_PLACES {
+    for w in 1..PLACES {
         if is_marked(ws, w) {
             return vs >> w != 0;
         }
-        w += 1;
     }
     false
 }
@@ -48,14 +46,12 @@ pub fn opens(vs: u64, ws: u64) -> bool
 fn whole_places(vs: u64, ws: u64) -> u64
     ensures { ((c : List Relation) → Settled c vs ws → result ≡ seek (λ (v : ℕ). all (settled_f v 0) c) (suc max_places) 0) × (result ≤ suc max_places) }
 {
-    let mut v: u64 = 0;
-    while v <= limits::MAX_PLACES {
+    for v in 0..PLACES {
         if settled_at(vs, ws, v, 0) {
             return v;
         }
-        v += 1;
     }
-    v
+    PLACES
 }
 
 // The least v where f is 0, as v and f in one number.
@@ -74,14 +70,12 @@ pub fn settled_places(vs: u64, ws: u64, k: u64) -> u64
     requires { k < max_places }
     ensures { (c : List Relation) → Settled c vs ws → result ≡ seek (λ (v : ℕ). all (settled_f v (v - k)) c) (max_places - k) (suc k) }
 {
-    let mut v: u64 = k + 1;
-    while v <= limits::MAX_PLACES {
+    for v in k + 1..PLACES {
         if settled_at(vs, ws, v, v - k) {
             return v;
         }
-        v += 1;
     }
-    v
+    PLACES
 }
 
 // Whether v is settled where t stands before k zeros, and has room for t.
@@ -89,10 +83,7 @@ fn room_for(vs: u64, ws: u64, k: u64, t: u64, v: u64) -> bool
     requires { (k < v) × (v ≤ max_places) }
     ensures { (c : List Relation) → Settled c vs ws → result ≡ both (all (settled_f v (v - k)) c) (ltb t (10 ^ (v - k))) }
 {
-    if !settled_at(vs, ws, v, v - k) {
-        return false;
-    }
-    t < power(v - k)
+    settled_at(vs, ws, v, v - k) && t < power(v - k)
 }
 
 // The least such v.
@@ -100,14 +91,12 @@ pub fn tail_places(vs: u64, ws: u64, k: u64, t: u64) -> u64
     requires { k < max_places }
     ensures { ((c : List Relation) → Settled c vs ws → result ≡ tail_places k t c) × (result ≤ suc max_places) }
 {
-    let mut v: u64 = k + 1;
-    while v <= limits::MAX_PLACES {
+    for v in k + 1..PLACES {
         if room_for(vs, ws, k, t, v) {
             return v;
         }
-        v += 1;
     }
-    v
+    PLACES
 }
 
 // Whether v is left and has room for f.
@@ -115,22 +104,17 @@ fn has_room(vs: u64, f: u64, v: u64) -> bool
     requires { v ≤ max_places }
     ensures { result ≡ both (marked vs v) (ltb f (10 ^ v)) }
 {
-    if !is_marked(vs, v) {
-        return false;
-    }
-    f < power(v)
+    is_marked(vs, v) && f < power(v)
 }
 
 // The least such v other than 0.
 pub fn least_room(vs: u64, f: u64) -> u64
     ensures { (result ≡ least_room vs f) × (result ≤ suc max_places) }
 {
-    let mut v: u64 = 1;
-    while v <= limits::MAX_PLACES {
+    for v in 1..PLACES {
         if has_room(vs, f, v) {
             return v;
         }
-        v += 1;
     }
-    v
+    PLACES
 }

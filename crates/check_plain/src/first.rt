@@ -26,16 +26,16 @@ fn later_clash(pack: &Pack, p: usize, n: usize) -> Clash
     requires { (p < n) × (n ≤ rule_room) }
     ensures { ((rest : Checked) → against clash_of (p + 1) (p + 1 + 1) (bare_rule (table_of pack.now) pack.now.relations pack.now.clauses p) (stretch (bare_rule (table_of pack.now) pack.now.relations pack.now.clauses) (p + 1) (n - (p + 1))) rest ≡ answered p n result.at result.spot rest) × (result.at < n → result.spot.e ≤ max_exponent) × Proper result.spot }
 {
-    let mut q = p + 1;
-    while q < n {
+    for q in p + 1..n {
         let spot = search::try_all(pack, p, q);
         if spot.e < NO_EXPONENT {
-            return Clash { at: q, spot: spot };
+            return Clash { at: q, spot };
         }
-        q += 1;
     }
-    let none = search::nowhere();
-    Clash { at: n, spot: none }
+    Clash {
+        at: n,
+        spot: search::nowhere(),
+    }
 }
 
 // The answer for the rules p and q and the number found.
@@ -55,13 +55,11 @@ pub fn first_pair(pack: &Pack, n: usize) -> Checked
     requires { n ≤ rule_room }
     ensures { result ≡ first_pair clash_of (0 + 1) (stretch (bare_rule (table_of pack.now) pack.now.relations pack.now.clauses) 0 (n - 0)) }
 {
-    let mut k: usize = 0;
-    while k < n {
+    for k in 0..n {
         let c = later_clash(pack, k, n);
         if c.at < n {
             return clashes(k, c.at, c.spot);
         }
-        k += 1;
     }
     Checked::Passes
 }

@@ -19,7 +19,7 @@ pub fn power(k: u8) -> u64
     requires { k ≤ 18 }
     ensures { result ≡ 10 ^ k }
 {
-    num::power(num::wide_byte(k))
+    num::power(u64::from(k))
 }
 
 // The least i that an exponent allows.
@@ -27,10 +27,7 @@ pub fn lowest_of(e: u8) -> u64
     requires { e ≤ max_exponent }
     ensures { result ≡ lowest e }
 {
-    if e == 0 {
-        return 0;
-    }
-    power(e)
+    if e == 0 { 0 } else { power(e) }
 }
 
 // Takes the trailing zeros of f, with v digits, off one by one.
@@ -62,15 +59,13 @@ pub fn number_at(e: u8, v: u8, i: u64, f: u64) -> Number
     ensures { result ≡ number_from false e v i f }
 {
     let part = strip(v, f);
-    let w = part.w;
-    let t = part.t;
     Number {
         negative: false,
-        e: e,
-        i: i,
+        e,
+        i,
         v: Places(v),
         f: DigitValue(f),
-        w: w,
-        t: t,
+        w: part.w,
+        t: part.t,
     }
 }

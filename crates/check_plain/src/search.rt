@@ -30,10 +30,7 @@ pub fn nowhere() -> Witness
 fn meets_both(pack: &Pack, first: usize, second: usize, x: Number) -> bool
     ensures { result ≡ meets_both (table_of pack.now) pack.now.relations pack.now.clauses first second x }
 {
-    if !select::meets_held(pack, first, x) {
-        return false;
-    }
-    select::meets_held(pack, second, x)
+    select::meets_held(pack, first, x) && select::meets_held(pack, second, x)
 }
 
 // Every f below 10^v.
@@ -41,19 +38,16 @@ fn try_fractions(pack: &Pack, p: usize, q: usize, e: u8, v: u8, i: u64) -> Witne
     requires { (e ≤ max_exponent) × (v ≤ max_places) × (lowest e ≤ i) × (i < 10 ^ max_digits) }
     ensures { Tried (meets_both (table_of pack.now) pack.now.relations pack.now.clauses p q) (rank_at e v i 0) (rank_at e v (i + 1) 0) result }
 {
-    let limit = operands::power(v);
-    let mut f: u64 = 0;
-    while f < limit {
+    for f in 0..operands::power(v) {
         let x = operands::number_at(e, v, i, f);
         if meets_both(pack, p, q, x) {
             return Witness {
-                e: e,
+                e,
                 v: Places(v),
-                i: i,
+                i,
                 f: DigitValue(f),
             };
         }
-        f += 1;
     }
     nowhere()
 }
@@ -63,13 +57,11 @@ fn try_integers(pack: &Pack, p: usize, q: usize, e: u8, v: u8) -> Witness
     requires { (e ≤ max_exponent) × (v ≤ max_places) }
     ensures { Tried (meets_both (table_of pack.now) pack.now.relations pack.now.clauses p q) (rank_at e v 0 0) (rank_at e (v + 1) 0 0) result }
 {
-    let mut i = operands::lowest_of(e);
-    while i < INTEGER_LIMIT {
+    for i in operands::lowest_of(e)..INTEGER_LIMIT {
         let s = try_fractions(pack, p, q, e, v, i);
         if s.e < NO_EXPONENT {
             return s;
         }
-        i += 1;
     }
     nowhere()
 }
@@ -79,13 +71,11 @@ fn try_places(pack: &Pack, p: usize, q: usize, e: u8) -> Witness
     requires { e ≤ max_exponent }
     ensures { Tried (meets_both (table_of pack.now) pack.now.relations pack.now.clauses p q) (rank_at e 0 0 0) (rank_at (e + 1) 0 0 0) result }
 {
-    let mut v: u8 = 0;
-    while v <= limits::MAX_PLACES {
+    for v in 0..=limits::MAX_PLACES {
         let s = try_integers(pack, p, q, e, v);
         if s.e < NO_EXPONENT {
             return s;
         }
-        v += 1;
     }
     nowhere()
 }
@@ -94,13 +84,11 @@ fn try_places(pack: &Pack, p: usize, q: usize, e: u8) -> Witness
 pub fn try_all(pack: &Pack, p: usize, q: usize) -> Witness
     ensures { (spot_rank result ≡ clash_of (bare_rule (table_of pack.now) pack.now.relations pack.now.clauses p) (bare_rule (table_of pack.now) pack.now.relations pack.now.clauses q)) × Proper result }
 {
-    let mut e: u8 = 0;
-    while e <= limits::MAX_EXPONENT {
+    for e in 0..=limits::MAX_EXPONENT {
         let s = try_places(pack, p, q, e);
         if s.e < NO_EXPONENT {
             return s;
         }
-        e += 1;
     }
     nowhere()
 }

@@ -9,34 +9,22 @@ ghost use Rattle.check_laws.specs.Read.{cap};
 ghost use Rattle.check_relation.specs.Runs.{far, next_with};
 
 use crate::{FAR, Run};
-use decimal::num::lesser;
+use meaning::in_range;
 use pack_rules::Pack;
-
-// Whether y is in the range a..b.
-fn is_in(a: u32, b: u32, y: u64) -> bool
-    ensures { result ≡ in_range y (record { low = a; high = b }) }
-{
-    if y < (a as u64) {
-        return false;
-    }
-    y <= (b as u64)
-}
 
 // The number behind b.
 fn behind(b: u32) -> u64
     ensures { (result ≡ b + 1) × (result ≤ far) }
 {
-    (b as u64) + 1
+    u64::from(b) + 1
 }
 
 // The least start above y of those so far, with that of the range from a on.
 fn next_with(next: u64, a: u32, y: u64) -> u64
     ensures { result ≡ next_with next a y }
 {
-    if y < (a as u64) {
-        return lesser(next, a as u64);
-    }
-    next
+    let start = u64::from(a);
+    if y < start { next.min(start) } else { next }
 }
 
 // Whether y is in one of the ranges from place `from` to before `to`, and up to where it is so: past the
@@ -47,16 +35,14 @@ pub fn range_run(pack: &Pack, from: usize, to: usize, y: u64) -> Run
     ensures stop_le_far { result.stop ≤ far }
 {
     let mut next = FAR;
-    let mut k = from;
-    while k < to {
-        if is_in(pack.low[k], pack.high[k], y) {
+    for k in from..to {
+        if in_range(pack.low[k], pack.high[k], y) {
             return Run {
                 says: true,
                 stop: behind(pack.high[k]),
             };
         }
         next = next_with(next, pack.low[k], y);
-        k += 1;
     }
     Run {
         says: false,

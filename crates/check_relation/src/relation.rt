@@ -12,25 +12,7 @@ ghost use Rattle.check_relation.specs.Runs.{tier, far, upwards};
 
 use crate::{Run, range};
 use check_laws::Query;
-use decimal::num::wide;
-use pack_rules::{Pack, Single};
-
-// x's remainder by m; x itself where m is 0.
-fn remainder(x: u64, m: u64) -> u64
-    ensures { result ≡ x % m }
-{
-    if m == 0 {
-        return x;
-    }
-    x % m
-}
-
-// The other answer, for a negated relation.
-fn turned(b: bool, negated: bool) -> bool
-    ensures { result ≡ (if negated then not b else b) }
-{
-    if negated { !b } else { b }
-}
+use pack_rules::{Pack, Single, letter};
 
 // What the relation says of the remainder y, or of the value y where it has no modulus.
 fn listed_run(pack: &Pack, s: Single, y: u64) -> Run
@@ -40,7 +22,7 @@ fn listed_run(pack: &Pack, s: Single, y: u64) -> Run
 {
     let r = range::range_run(pack, s.from, s.to, y);
     Run {
-        says: turned(r.says, s.negated),
+        says: r.says != s.negated,
         stop: r.stop,
     }
 }
@@ -50,28 +32,21 @@ pub fn holds_of(pack: &Pack, s: Single, x: u64) -> bool
     requires { (x ≤ cap) × (s.to ≤ range_room) }
     ensures { result ≡ test (relation_by pack.now.low pack.now.high s) x }
 {
-    let y = remainder(x, wide(s.modulus));
-    let r = listed_run(pack, s, y);
-    r.says
+    let rest = x.checked_rem(u64::from(s.modulus)).unwrap_or(x);
+    listed_run(pack, s, rest).says
 }
 
 // The factor of an operand, by its letter.
 pub fn factor_of(q: Query, o: u32) -> u64
     ensures { result ≡ factor q o }
 {
-    if o == 110 {
-        return q.n;
+    match o {
+        letter::N => q.n,
+        letter::I => q.i,
+        letter::F => q.f,
+        letter::T => q.t,
+        _ => 0,
     }
-    if o == 105 {
-        return q.i;
-    }
-    if o == 102 {
-        return q.f;
-    }
-    if o == 116 {
-        return q.t;
-    }
-    0
 }
 
 // The same of an operand that is asked: 1, but for f.
@@ -79,10 +54,7 @@ fn asked_factor(q: Query, o: u32) -> u64
     requires { Fit q × (factor q o ≡ 0 → ⊥) }
     ensures { result ≡ factor q o }
 {
-    if o == 102 {
-        return q.f;
-    }
-    1
+    if o == letter::F { q.f } else { 1 }
 }
 
 // The level of a relation of x * s with the modulus w.
@@ -126,10 +98,8 @@ fn upwards_by(y: u64, s: u64) -> u64
     requires { (0 < s) × (s ≤ 1_000_000_000) × (y ≤ far) }
     ensures { result ≡ upwards y s }
 {
-    if s == 1 {
-        return y;
-    }
-    (y + (s - 1)) / s
+    // One division less where the factor is 1, as it mostly is.
+    if s == 1 { y } else { (y + (s - 1)) / s }
 }
 
 // What the relation, which is asked, asks of p at its level.
@@ -154,8 +124,5 @@ pub fn passes_of(pack: &Pack, q: Query, s: Single, x: u64) -> bool
     ensures { result ≡ passes q (relation_by pack.now.low pack.now.high s) x }
 {
     let k = factor_of(q, s.operand);
-    if k == 0 {
-        return true;
-    }
-    holds_of(pack, s, x * k)
+    k == 0 || holds_of(pack, s, x * k)
 }

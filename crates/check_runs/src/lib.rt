@@ -12,18 +12,21 @@ pub mod marks;
 pub const KEPT: usize = 16;
 
 // What is kept of each relation of a clause at a level: the run that was found last.
+#[derive(Drop)]
 pub struct Runs {
     pub says: [bool; KEPT],
     pub stop: [u64; KEPT],
 }
 
 // The levels that a clause asks, and the level of each of its relations.
+#[derive(Drop)]
 pub struct LevelMarks {
     pub asked: [bool; 9],
     pub tiers: [usize; KEPT],
 }
 
 // The relations of a clause that are of one level: the first `count` of `at`.
+#[derive(Drop)]
 pub struct LevelList {
     pub level: usize,
     pub count: usize,

@@ -14,7 +14,6 @@ use check_laws::{Query, Span};
 use check_next::{NextTable, next};
 use check_runs::clause::clause_run;
 use check_runs::{LevelList, Runs};
-use decimal::num::lesser;
 use pack_rules::Pack;
 
 // Looks at the run of p. Where the relations of the level do not hold, its end is where to go on; where
@@ -41,7 +40,7 @@ fn look(
     if run.says {
         return Found {
             at: next(table, j, p),
-            stop: lesser(run.stop, end),
+            stop: run.stop.min(end),
         };
     }
     Found {

@@ -34,10 +34,10 @@ fn fill_level(
     requires fit { Fit q × (s.to ≤ relation_room) × (s.stop ≤ relation_room) × (size_of s ≤ kept_room) × (j < 7) × (m ≡ 10 ^ j) × Told (table_of pack.now) s q marks.now.tiers }
     requires laid { Laid table.old.starts table.old.ends table.old.at j }
     requires tabled { Tabled (below q (joined_in (table_of pack.now) s)) table.old.starts table.old.ends table.old.at j }
-    ensures laid_2 { Laid table.new.starts table.new.ends table.old.at j }
-    ensures tabled_2 { Tabled (below q (joined_in (table_of pack.now) s)) table.new.starts table.new.ends table.old.at j }
+    ensures laid_after { Laid table.new.starts table.new.ends table.new.at j }
+    ensures tabled_after { Tabled (below q (joined_in (table_of pack.now) s)) table.new.starts table.new.ends table.new.at j }
     ensures at_kept { table.new.at ≡ table.old.at }
-    ensures covers { result ≤ room → Covers (own q (joined_in (table_of pack.now) s) j) (below q (joined_in (table_of pack.now) s) j) (segments_in table.new.starts table.new.ends (get_or table.old.at j 0) result) (10 ^ j) }
+    ensures covers { result ≤ room → Covers (own q (joined_in (table_of pack.now) s) j) (below q (joined_in (table_of pack.now) s) j) (segments_in table.new.starts table.new.ends (get_or table.new.at j 0) result) (10 ^ j) }
 {
     let mut runs = Runs {
         says: [false; KEPT],
@@ -102,20 +102,12 @@ pub fn build(pack: &Pack, s: Span, q: Query, marks: &LevelMarks, table: &mut Nex
     ensures { BuiltAs (below q (joined_in (table_of pack.now) s)) table.new.starts table.new.ends table.new.at 7 result }
 {
     let mut m: u64 = 1;
-    let mut j: usize = 0;
-    while j < LEVELS {
-        let b = add_level(pack, s, q, marks, table, j, m);
-        match b {
-            Built::Stands => {}
-            Built::Empty => {
-                return Built::Empty;
-            }
-            Built::Full => {
-                return Built::Full;
-            }
+    for j in 0..LEVELS {
+        match add_level(pack, s, q, marks, table, j, m) {
+            Built::Stands => m *= 10,
+            Built::Empty => return Built::Empty,
+            Built::Full => return Built::Full,
         }
-        m *= 10;
-        j += 1;
     }
     Built::Stands
 }

@@ -8,8 +8,9 @@ use lib.Dec.{ltb}
 use borrow.Author.Tests.{ltb-true, ltb-false}
 use native.Mathlib.Numerals.{add-one}
 use lib.Arith.{mod-mul}
-use lib.ListN.{length, get_or, take, drop, set, length-append, length-set, length-drop, take-append-drop}
-use lib.Seq.{drop-cons, drop-length, append_snoc, get_or-set_same, drop-set-lt, take-suc, take-length, take-take, take-set-le, take-suc-set, take-append_seam}
+use Rattle.std.proofs.lemmas.List.{length-replicate, replicate-append-replicate}
+use lib.ListN.{length, get_or, take, drop, set, replicate, length-append, length-set, length-drop, take-append-drop}
+use lib.Seq.{drop-cons, drop-length, append_snoc, get_or-set_same, drop-set-lt, take-suc, take-length, take-take, take-set-le, take-append_seam}
 use Rattle.decimal.specs.Digits.{is_digit, value, figures, lead, AllDigits, shown, wide, numeral}
 use Rattle.decimal.proofs.Choices.{tested}
 use Rattle.decimal.proofs.Runs.{of_append, of_cons, digit_is, digit_bounds, of_head, of_take, of_drop}
@@ -116,14 +117,12 @@ figures_again m i j o e h =
 
 -- ---- the front of an area of zeros
 
-pub zeros_length : (o₀ o : List ℕ) → o ≡ figures (length o₀) 0 → length o ≡ length o₀
-zeros_length o₀ o e = ap length e ∙ length_figures (length o₀) 0
+zeros_of : (k : ℕ) → figures k 0 ≡ replicate k 48
+zeros_of zero = refl
+zeros_of (suc k) = rw (zeros_of k) (replicate-append-replicate {A = ℕ} k 1 48 ∙ rw add-one)
 
-pub zeros_start : (o₀ o : List ℕ) → o ≡ figures (length o₀) 0 → take (length o) o ≡ figures (length o) 0
-zeros_start o₀ o e = take-length o ∙ e ∙ ap (λ (k : ℕ). figures k 0) (sym (zeros_length o₀ o e))
-
-pub zeros_more : (i : ℕ) (o : List ℕ) → i < length o → take i o ≡ figures i 0 → take (i + 1) (set o i 48) ≡ figures (i + 1) 0
-zeros_more i o h e = rw (add-one, take-suc-set o i 48 h, e)
+pub zeros_start : (k : ℕ) (o : List ℕ) → o ≡ replicate k 48 → take (length o) o ≡ figures (length o) 0
+zeros_start k o e = take-length o ∙ e ∙ rw (e, length-replicate) (sym (zeros_of k))
 
 pub zeros_less : (i j x : ℕ) (o : List ℕ) → i ≡ suc j → take i o ≡ figures i 0 → take j (set o j x) ≡ figures j 0
 zeros_less i j x o e z =

@@ -10,6 +10,8 @@ use borrow.Author.Tests.{ltb-true, ltb-false, lt-ltb, le-ltb}
 use lib.Dec.{ltb}
 use lib.ListN.{length, get_or, take, drop, drop_of_length-le, length-append}
 use lib.Seq.{drop-cons, length-take-le}
+use Rattle.std.specs.List.{prefix_len}
+use Rattle.std.proofs.lemmas.List.Folds.{length-prefix_len}
 use Rattle.decimal.specs.Lists.{run_of, AllOf}
 use Rattle.decimal.specs.Digits.{is_digit}
 use Rattle.decimal.proofs.Choices.{tested, not_both}
@@ -17,12 +19,6 @@ use Rattle.decimal.proofs.Choices.{tested, not_both}
 pub nil_of_length : (s : List ℕ) → length s ≡ 0 → s ≡ []
 nil_of_length [] e = refl
 nil_of_length (b ∷ s) e = absurd (omega arith)
-
--- an element within the list is the same whatever stands for those past its end
-pub get_d_any : (s : List ℕ) (i a b : ℕ) → i < length s → get_or s i a ≡ get_or s i b
-get_d_any [] i a b h = omega arith
-get_d_any (x ∷ s) zero a b h = refl
-get_d_any (x ∷ s) (suc i) a b h = get_d_any s i a b (omega arith)
 
 -- what is left behind the first element and others
 pub drop_some : (w b : ℕ) (r : List ℕ) → 1 ≤ w → drop w (b ∷ r) ≡ drop (w - 1) r
@@ -127,3 +123,13 @@ module _ (p : ℕ → Bool) where
   of_drop zero s e = e
   of_drop (suc k) [] e = refl
   of_drop (suc k) (b ∷ s) e = of_drop k s (of_head b s e).1
+
+  -- what the library counts of a list's first elements is its run
+  pub prefix_is_run : (s : List ℕ) → prefix_len p s ≡ run_of p s
+  prefix_is_run [] = refl
+  prefix_is_run (b ∷ s) = tested (p b) (λ k. rw k (omega (arith, prefix_is_run s))) (λ k. rw k)
+
+  pub counted : (s : List ℕ) (n : ℕ) → n ≡ length (take (prefix_len p s) s) → (n ≡ run_of p s) × (n ≤ length s)
+  counted s n e =
+      let k : n ≡ run_of p s = e ∙ length-prefix_len p s ∙ prefix_is_run s in
+      (k, omega (arith, run_le s))

@@ -4,23 +4,10 @@ use mathlib.Core.List.{List, [], ◌∷◌, ◌++◌}
 use Prim.Native.Nat.{ℕ, suc, ◌+◌, ◌≤◌, ◌<◌}
 use native.Mathlib.Omega.{arith}
 use native.Mathlib.Nat.{zero-add, suc-add}
-use native.Mathlib.Numerals.{add-one}
 use lib.Dec.{eqb}
-use borrow.Author.Tests.{eq-eqb, ne_eqb}
-use lib.ListN.{length, get_or, take, drop, drop_of_length-le}
-use lib.Seq.{drop-cons}
+use lib.ListN.{length, take, drop}
 use Rattle.decimal.specs.Split.{until, on_first, split}
 use Rattle.decimal.proofs.Choices.{tested}
-
--- one turn of a scan, and its end
-pub until_more : (b : ℕ) (s : List ℕ) (i : ℕ) → i < length s → (get_or s i 0 ≡ b → ⊥) → i + until b (drop i s) ≡ (i + 1) + until b (drop (i + 1) s)
-until_more b s i h d = rw (add-one, drop-cons s i 0 h, ne_eqb (get_or s i 0) b d) (omega arith)
-
-pub until_end : (b : ℕ) (s : List ℕ) (i : ℕ) → i < length s → get_or s i 0 ≡ b → until b (drop i s) ≡ 0
-until_end b s i h d = rw (drop-cons s i 0 h, eq-eqb (get_or s i 0) b d)
-
-pub until_out : (b : ℕ) (s : List ℕ) (i : ℕ) → length s ≤ i → until b (drop i s) ≡ 0
-until_out b s i h = rw (drop_of_length-le s h)
 
 pub until_le : (b : ℕ) (s : List ℕ) → until b s ≤ length s
 until_le b [] = omega arith

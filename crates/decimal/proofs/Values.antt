@@ -3,13 +3,14 @@ use mathlib.Core.Path.{◌≡◌, refl, ap, ◌∙◌}
 use mathlib.Core.List.{List, [], ◌∷◌, ◌++◌}
 use Prim.Native.Nat.{ℕ, zero, suc, ◌+◌, ◌*◌, ◌-◌, ◌^◌, ◌≤◌, ◌<◌, min}
 use native.Mathlib.Omega.{arith}
-use native.Mathlib.Nat.{pow-succ', mul-le-mul_right, pow-le-pow_right, one-le-pow}
+use native.Mathlib.Nat.{pow-succ', mul-le-mul_right, pow-le-pow_right, one-le-pow, zero-sub, sub-zero, suc-sub-suc}
 use native.Mathlib.Numerals.{add-one}
 use borrow.Author.Tests.{leb-true, leb-false}
 use lib.Dec.{leb}
-use lib.ListN.{length, get_or, take}
+use lib.ListN.{length, get_or, take, replicate}
 use lib.Seq.{take-suc}
-use Rattle.decimal.specs.Digits.{is_digit, value_from, value, first, AllDigits}
+use Rattle.std.specs.List.{fold}
+use Rattle.decimal.specs.Digits.{is_digit, value_from, value, first, cap, AllDigits}
 use Rattle.decimal.proofs.Choices.{tested}
 use Rattle.decimal.proofs.Runs.{digit_bounds, of_head, of_cons}
 
@@ -34,16 +35,16 @@ pub value_more : (n : ℕ) (s : List ℕ) (i : ℕ) → i < length s
     → value_from n (take (i + 1) s) ≡ 10 * value_from n (take i s) + (get_or s i 0 - 48)
 value_more n s i h = rw (add-one, take-suc s i 0 h) (value_snoc n (take i s) (get_or s i 0))
 
--- the first digits, with zeros after the end
-first_snoc : (s : List ℕ) (i : ℕ) → first (suc i) s ≡ first i s ++ (get_or s i 48 ∷ [])
-first_snoc [] zero = refl
-first_snoc [] (suc i) = ap (λ (l : List ℕ). 48 ∷ l) (first_snoc [] i)
-first_snoc (b ∷ s) zero = refl
-first_snoc (b ∷ s) (suc i) = ap (λ (l : List ℕ). b ∷ l) (first_snoc s i)
+-- the first digits are those of the text, and zeros after its end
+first_zeros : (k : ℕ) → replicate k 48 ≡ first k []
+first_zeros zero = refl
+first_zeros (suc k) = ap (λ (l : List ℕ). 48 ∷ l) (first_zeros k)
 
-pub first_more : (n : ℕ) (s : List ℕ) (i : ℕ)
-    → value_from n (first (i + 1) s) ≡ 10 * value_from n (first i s) + (get_or s i 48 - 48)
-first_more n s i = rw (add-one, first_snoc s i) (value_snoc n (first i s) (get_or s i 48))
+first_is : (k : ℕ) (s : List ℕ) → take k s ++ replicate (k - length s) 48 ≡ first k s
+first_is zero [] = refl
+first_is zero (b ∷ s) = rw zero-sub
+first_is (suc k) [] = rw sub-zero (first_zeros (suc k))
+first_is (suc k) (b ∷ s) = rw suc-sub-suc (ap (λ (l : List ℕ). b ∷ l) (first_is k s))
 
 pub length_first : (k : ℕ) (s : List ℕ) → length (first k s) ≡ k
 length_first zero s = refl
@@ -77,8 +78,20 @@ value_cap n c s =
     rw k (omega (arith, value_ge n s, value_ge c s, leb-false n c e)))
 
 -- one more digit of a value that is kept at a bound
-pub cap_more : (c m v d r : ℕ) → min m c ≡ min v c → r ≡ min (10 * m + d) c → min r c ≡ min (10 * v + d) c
-cap_more c m v d r e f = rw f (omega arith)
+abbrev pub one_more : ℕ → ℕ → ℕ
+one_more n b = min (10 * n + (b - 48)) cap
+
+-- a digit after the other, and the last value kept at the bound too
+pub value_fold : (n : ℕ) (s : List ℕ) → min (fold one_more n s) cap ≡ min (value_from n s) cap
+value_fold n [] = refl
+value_fold n (b ∷ s) = value_fold (one_more n b) s ∙ value_cap (10 * n + (b - 48)) cap s
+
+pub value_padded : (n k : ℕ) (s : List ℕ)
+    → min (fold one_more (min (value_from n (take k s)) cap) (replicate (k - length s) 48)) cap ≡ min (value_from n (first k s)) cap
+value_padded n k s =
+    let z = replicate (k - length s) 48 in
+    let m = value_from n (take k s) in
+    value_fold (min m cap) z ∙ value_cap m cap z ∙ rw (← value_append n (take k s) z, first_is k s)
 
 -- further digits multiply what stands before them by ten to their number
 pub value_from_law : (n : ℕ) (s : List ℕ) → value_from n s ≡ n * 10 ^ length s + value s

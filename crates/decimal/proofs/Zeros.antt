@@ -1,14 +1,15 @@
 -- Laws of leading and trailing zeros.
 use mathlib.Core.Path.{◌≡◌, refl, ap, ◌∙◌}
-use mathlib.Core.List.{List, [], ◌∷◌, ◌++◌}
+use mathlib.Core.List.{List, [], ◌∷◌, ◌++◌, reverse}
 use mathlib.Core.Logic.{◌⊎◌, ⊎_elim}
 use Prim.Native.Nat.{ℕ, zero, suc, ◌+◌, ◌*◌, ◌-◌, ◌%◌, ◌^◌, ◌≤◌, ◌<◌, min}
 use native.Mathlib.Omega.{arith}
 use native.Mathlib.Nat.{pow-succ', mul-le-mul_right, sub-zero, suc-sub-suc}
 use borrow.Author.Tests.{eqb-true, eqb-false, eq-eqb, ne_eqb}
 use lib.Dec.{eqb}
-use lib.ListN.{length, get_or, take, drop}
-use lib.Seq.{take-suc}
+use lib.ListN.{length, get_or, take, drop, length-append}
+use Rattle.std.proofs.lemmas.List.{reverse-reverse, length-reverse}
+use Rattle.std.proofs.lemmas.Grind.{reverse_onto}
 use Rattle.decimal.specs.Digits.{is_digit, is_zero, value_from, value, lead, shown, keep, trim, AllDigits}
 use Rattle.decimal.proofs.Choices.{tested}
 use Rattle.decimal.proofs.Runs.{digit_bounds, run_stop, of_head}
@@ -74,15 +75,18 @@ trim_other : (s : List ℕ) (x : ℕ) → (x ≡ 48 → ⊥) → trim (s ++ (x �
 trim_other [] x h = rw (ne_eqb x 48 h)
 trim_other (b ∷ s) x h = rw (trim_other s x h) (keep_snoc b s x)
 
--- the last of n digits is a zero, or not, or there is none
-pub trim_less : (s : List ℕ) (n m : ℕ) → n ≡ suc m → m < length s → get_or s m 0 ≡ 48 → trim (take n s) ≡ trim (take m s)
-trim_less s n m e h g = rw (e, take-suc s m 0 h, g) (trim_zero (take m s))
+-- what is left and the zeros from the end back are all of the text
+trim_reverse : (r : List ℕ) → length (trim (reverse r)) + lead r ≡ length r
+trim_reverse [] = refl
+trim_reverse (x ∷ r) =
+    let e : reverse (x ∷ r) ≡ reverse r ++ (x ∷ []) = reverse_onto r x [] in
+    rw e
+    (tested (eqb x 48)
+    (λ k. rw (k, eqb-true x 48 k, trim_zero (reverse r)) (omega (arith, trim_reverse r)))
+    (λ k. rw (k, trim_other (reverse r) x (eqb-false x 48 k), length-append (reverse r) (x ∷ []), length-reverse r) (omega arith)))
 
-pub trim_keep : (s : List ℕ) (n m : ℕ) → n ≡ suc m → m < length s → (get_or s m 0 ≡ 48 → ⊥) → trim (take n s) ≡ take n s
-trim_keep s n m e h g = rw (e, take-suc s m 0 h) (trim_other (take m s) (get_or s m 0) g)
-
-pub trim_none : (s : List ℕ) (n : ℕ) → n ≡ 0 → trim (take n s) ≡ take n s
-trim_none s n e = rw e
+pub trimmed : (s : List ℕ) → length (trim s) + lead (reverse s) ≡ length s
+trimmed s = rw (reverse-reverse s, length-reverse s) at (trim_reverse (reverse s))
 
 -- what is left without trailing zeros is the text's front
 pub trim_front : (s : List ℕ) → trim s ≡ take (length (trim s)) s

@@ -6,27 +6,18 @@ ghost use Rattle.decimal.specs.Digits.{begins};
 pub fn after(s: &[u8], a: usize) -> &[u8]
     ensures { result.now ≡ drop a s.now }
 {
-    if a < s.len() {
-        return &s[a..];
-    }
-    &s[0..0]
+    s.get(a..).unwrap_or(b"")
 }
 
 // The first a bytes of the text: all of it where it is shorter.
 pub fn upto(s: &[u8], a: usize) -> &[u8]
     ensures { result.now ≡ take a s.now }
 {
-    if a < s.len() {
-        return &s[..a];
-    }
-    s
+    s.get(..a).unwrap_or(s)
 }
 
 pub fn begins_with(s: &[u8], b: u8) -> bool
     ensures { result ≡ begins b s.now }
 {
-    if s.len() == 0 {
-        return false;
-    }
-    s[0] == b
+    s.first() == Some(&b)
 }

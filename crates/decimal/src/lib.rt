@@ -11,9 +11,9 @@ pub mod scan;
 pub mod value;
 
 // A count of digit places: document 01's v and w.
-#[derive(Clone, Copy)]
+#[derive(Clone, Copy, PartialEq, Eq, PartialOrd, Ord)]
 pub struct Places(pub u8);
 
 // The value that digits spell: document 01's f and t.
-#[derive(Clone, Copy)]
+#[derive(Clone, Copy, PartialEq, Eq, PartialOrd, Ord)]
 pub struct DigitValue(pub u64);

@@ -1,7 +1,10 @@
 // The value of digits, kept at CAP once it is there: no run of digits overflows or costs more than
 // a step for each.
-ghost use Rattle.std.specs.Prelude.{◌≡◌, ◌+◌, ◌*◌, ◌-◌, min, get_or};
+ghost use Rattle.std.specs.Prelude.{◌≡◌, ◌+◌, ◌*◌, ◌-◌, min};
 ghost use Rattle.decimal.specs.Digits.{value_from, value, first, cap};
+
+use crate::cut;
+use std::iter::repeat_n;
 
 const CAP: u64 = 1_000_000_000_000_000_000;
 
@@ -9,40 +12,25 @@ const CAP: u64 = 1_000_000_000_000_000_000;
 pub fn digit_value(b: u8) -> u64
     ensures { result ≡ b - 48 }
 {
-    if b < 48 {
-        return 0;
-    }
-    (b - 48) as u64
+    u64::from(b.saturating_sub(b'0'))
 }
 
 // One more digit after digits of value n.
 fn one_more(n: u64, b: u8) -> u64
     ensures { result ≡ min (10 * n + (b - 48)) cap }
 {
-    if CAP <= n {
-        return CAP;
+    if n < CAP {
+        CAP.min(10 * n + digit_value(b))
+    } else {
+        CAP
     }
-    let m = 10 * n + digit_value(b);
-    if m < CAP {
-        return m;
-    }
-    CAP
 }
 
 // The value of the digits s after digits of value n.
 pub fn value_from(n: u64, s: &[u8]) -> u64
     ensures { result ≡ min (value_from n s.now) cap }
 {
-    let mut m = n;
-    let mut i = 0;
-    while i < s.len() {
-        m = one_more(m, s[i]);
-        i += 1;
-    }
-    if m < CAP {
-        return m;
-    }
-    CAP
+    s.iter().fold(n, |m, b| one_more(m, *b)).min(CAP)
 }
 
 // The value of the digits s.
@@ -52,28 +40,12 @@ pub fn value_of(s: &[u8]) -> u64
     value_from(0, s)
 }
 
-// The digit at a place of s, or a zero after its end.
-fn digit_at(s: &[u8], i: usize) -> u8
-    ensures { result ≡ get_or s.now i 48 }
-{
-    if i < s.len() {
-        return s[i];
-    }
-    48
-}
-
 // The value of the first k digits of s, with zeros after its end, after digits of value n.
 pub fn value_first(n: u64, k: usize, s: &[u8]) -> u64
     ensures { result ≡ min (value_from n (first k s.now)) cap }
 {
-    let mut m = n;
-    let mut i = 0;
-    while i < k {
-        m = one_more(m, digit_at(s, i));
-        i += 1;
-    }
-    if m < CAP {
-        return m;
-    }
-    CAP
+    let zeros = repeat_n(b'0', k.saturating_sub(s.len()));
+    zeros
+        .fold(value_from(n, cut::upto(s, k)), one_more)
+        .min(CAP)
 }

@@ -7,65 +7,33 @@ ghost use Rattle.pack_rules.specs.Room.{clause_room, range_room, relation_room};
 ghost use Rattle.pack_rules.specs.Stretch.{start_at, ranges_in, relation_by, table_of, relations_in, clauses_in};
 ghost use Rattle.meaning.specs.Meaning.{in_range, operand_value, is_whole, holds, clause_holds, condition_holds};
 
-use decimal::num::{wide, wide_byte};
 use number::Number;
-use pack_rules::{Pack, RELATION_ROOM, Single, single_at, start_at, stop_at};
-
-// x's remainder by m; x itself where m is 0.
-fn remainder(x: u64, m: u64) -> u64
-    ensures { result ≡ x % m }
-{
-    if m == 0 {
-        return x;
-    }
-    x % m
-}
+use pack_rules::{Pack, RELATION_ROOM, Single, letter, single_at, start_at, stop_at};
 
 fn operand_value(o: u32, x: Number) -> u64
     ensures { result ≡ operand_value o x }
 {
-    if o == 110 {
-        return x.i;
+    match o {
+        letter::N | letter::I => x.i,
+        letter::F => x.f.0,
+        letter::T => x.t.0,
+        letter::V => u64::from(x.v.0),
+        letter::W => u64::from(x.w.0),
+        _ => u64::from(x.e),
     }
-    if o == 105 {
-        return x.i;
-    }
-    if o == 102 {
-        let f = x.f;
-        return f.0;
-    }
-    if o == 116 {
-        let t = x.t;
-        return t.0;
-    }
-    if o == 118 {
-        let v = x.v;
-        return wide_byte(v.0);
-    }
-    if o == 119 {
-        let w = x.w;
-        return wide_byte(w.0);
-    }
-    wide_byte(x.e)
 }
 
 fn is_whole(o: u32, x: Number) -> bool
     ensures { result ≡ is_whole o x }
 {
-    if o == 110 {
-        let f = x.f;
-        return f.0 == 0;
-    }
-    true
+    o != letter::N || x.f.0 == 0
 }
 
-fn in_range(a: u32, b: u32, x: u64) -> bool
+// x is in the range a..b.
+pub fn in_range(a: u32, b: u32, x: u64) -> bool
     ensures { result ≡ in_range x (record { low = a; high = b }) }
 {
-    if wide(a) <= x {
-        return x <= wide(b);
-    }
-    false
+    u64::from(a) <= x && x <= u64::from(b)
 }
 
 // x is in one of the ranges at `from` to before `to`.
@@ -73,12 +41,10 @@ fn in_ranges(pack: &Pack, from: usize, to: usize, x: u64) -> bool
     requires { to ≤ range_room }
     ensures { result ≡ any (in_range x) (ranges_in pack.now.low pack.now.high from to) }
 {
-    let mut k = from;
-    while k < to {
+    for k in from..to {
         if in_range(pack.low[k], pack.high[k], x) {
             return true;
         }
-        k += 1;
     }
     false
 }
@@ -91,12 +57,9 @@ fn relation_holds(pack: &Pack, s: Single, x: Number) -> bool
     if !is_whole(s.operand, x) {
         return s.negated;
     }
-    let value = remainder(operand_value(s.operand, x), wide(s.modulus));
-    let listed = in_ranges(pack, s.from, s.to, value);
-    if s.negated {
-        return !listed;
-    }
-    listed
+    let value = operand_value(s.operand, x);
+    let rest = value.checked_rem(u64::from(s.modulus)).unwrap_or(value);
+    s.negated != in_ranges(pack, s.from, s.to, rest)
 }
 
 // The relations at `from` to before `to` all hold.
@@ -104,12 +67,10 @@ fn clause_holds(pack: &Pack, from: usize, to: usize, x: Number) -> bool
     requires { to ≤ relation_room }
     ensures { result ≡ clause_holds (relations_in (table_of pack.now) from to) x }
 {
-    let mut j = from;
-    while j < to {
+    for j in from..to {
         if !relation_holds(pack, single_at(pack, j), x) {
             return false;
         }
-        j += 1;
     }
     true
 }
@@ -119,8 +80,7 @@ pub fn condition_holds(pack: &Pack, from: usize, to: usize, x: Number) -> bool
     requires { to ≤ clause_room }
     ensures { result ≡ condition_holds (clauses_in (table_of pack.now) pack.now.relations from to) x }
 {
-    let mut j = from;
-    while j < to {
+    for j in from..to {
         if clause_holds(
             pack,
             start_at(&pack.relations, j),
@@ -129,7 +89,6 @@ pub fn condition_holds(pack: &Pack, from: usize, to: usize, x: Number) -> bool
         ) {
             return true;
         }
-        j += 1;
     }
     false
 }

@@ -13,13 +13,14 @@ ghost use Rattle.pack_bare.specs.Bare.{same_texts, is_bare};
 
 use decimal::cut::{after, upto};
 use pack_grammar::MAX_BYTES;
-use pack_token::{piece_len, same_text, skip_white};
+use pack_token::{piece_len, skip_white};
 
 // The token at a place without white space is w.
+#[tactic(auto, using(pack_token::proofs::Spellings::pointwise_same))]
 fn token_is(s: &[u8], at: usize, w: &[u8]) -> bool
     ensures { result ≡ same (take (token_len (drop at s.now)) (drop at s.now)) w.now }
 {
-    same_text(upto(after(s, at), piece_len(s, at, 0)), w)
+    upto(after(s, at), piece_len(s, at, 0)) == w
 }
 
 // From a place on there is no token.
@@ -34,10 +35,7 @@ fn ends_in_colon(s: &[u8], from: usize) -> bool
     ensures { result ≡ same_texts (texts (tokens from (drop from s.now))) (colon ∷ []) }
 {
     let at = skip_white(s, from);
-    if token_is(s, at, b":") {
-        return ends(s, at + 1);
-    }
-    false
+    token_is(s, at, b":") && ends(s, at + 1)
 }
 
 // Whether a text, any bytes, is the pack that is `other:` alone.
@@ -48,8 +46,5 @@ pub fn is_bare(text: &[u8]) -> bool
         return false;
     }
     let at = skip_white(text, 0);
-    if token_is(text, at, b"other") {
-        return ends_in_colon(text, at + 5);
-    }
-    false
+    token_is(text, at, b"other") && ends_in_colon(text, at + 5)
 }

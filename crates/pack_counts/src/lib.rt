@@ -1,18 +1,16 @@
 // What a token closes, and how the counts of what has been read change by that.
 //
 // specs/Counts.antt has both as definitions; the functions are those. Every function is total.
-#![tactic(auto)]
+#![tactic(auto, using(pack_token::proofs::Spellings::spellings))]
 
 ghost use Rattle.std.specs.Prelude.{◌≡◌};
-ghost use Rattle.decimal.specs.Choice.{either};
-ghost use Rattle.pack_counts.specs.Counts.{more_of, more_if, zero_if, nothing, ends_bare, ends_relation, counts_after};
+ghost use Rattle.pack_counts.specs.Counts.{more_if, zero_if, ends_bare, ends_relation, counts_after};
 
 use pack_grammar::MAX_BYTES;
-use pack_token::same_text;
 
 // How many ranges, relations, clauses and rules the arrays hold; how many values the open relation,
 // relations the open clause and clauses the open rule has.
-#[derive(Clone, Copy)]
+#[derive(Clone, Copy, PartialEq, Eq, Default)]
 pub struct Counts {
     pub ranges: usize,
     pub relations: usize,
@@ -24,51 +22,30 @@ pub struct Counts {
 }
 
 // What a token closes.
-#[derive(Clone, Copy)]
+#[derive(Clone, Copy, PartialEq, Eq)]
 pub struct Closes {
     pub relation: bool,
     pub clause: bool,
     pub rule: bool,
 }
 
-pub fn or_either(a: bool, b: bool) -> bool
-    ensures { result ≡ either a b }
+pub const NOTHING: Closes = Closes {
+    relation: false,
+    clause: false,
+    rule: false,
+};
+
+// One more where the test holds, of what a pack has fewer of than bytes.
+fn more_if(more: bool, n: usize) -> usize
+    ensures { result ≡ more_if more n }
 {
-    if a { true } else { b }
+    if more && n < MAX_BYTES { n + 1 } else { n }
 }
 
-fn more(n: usize) -> usize
-    ensures { result ≡ more_of n }
+fn zero_if(zero: bool, n: usize) -> usize
+    ensures { result ≡ zero_if zero n }
 {
-    if n < MAX_BYTES {
-        return n + 1;
-    }
-    n
-}
-
-fn more_if(b: bool, n: usize) -> usize
-    ensures { result ≡ more_if b n }
-{
-    if b {
-        return more(n);
-    }
-    n
-}
-
-fn zero_if(b: bool, n: usize) -> usize
-    ensures { result ≡ zero_if b n }
-{
-    if b { 0 } else { n }
-}
-
-pub fn none() -> Closes
-    ensures { result ≡ nothing }
-{
-    Closes {
-        relation: false,
-        clause: false,
-        rule: false,
-    }
+    if zero { 0 } else { n }
 }
 
 // What a token closes behind `other:`.
@@ -76,9 +53,8 @@ pub fn ends_bare(t: &[u8]) -> Closes
     ensures { result ≡ ends_bare t.now }
 {
     Closes {
-        relation: false,
-        clause: false,
-        rule: same_text(t, b";"),
+        rule: matches!(t, b";"),
+        ..NOTHING
     }
 }
 
@@ -86,13 +62,22 @@ pub fn ends_bare(t: &[u8]) -> Closes
 pub fn ends_relation(t: &[u8]) -> Closes
     ensures { result ≡ ends_relation t.now }
 {
-    let c = same_text(t, b";");
-    let b = or_either(same_text(t, b"or"), c);
-    let a = or_either(same_text(t, b"and"), b);
-    Closes {
-        relation: a,
-        clause: b,
-        rule: c,
+    match t {
+        b"and" => Closes {
+            relation: true,
+            ..NOTHING
+        },
+        b"or" => Closes {
+            relation: true,
+            clause: true,
+            ..NOTHING
+        },
+        b";" => Closes {
+            relation: true,
+            clause: true,
+            rule: true,
+        },
+        _ => NOTHING,
     }
 }
 

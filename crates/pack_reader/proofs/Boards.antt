@@ -10,6 +10,7 @@ use lib.Seq.{drop-drop}
 use borrow.Author.Tests.{lt-ltb, le-ltb, ltb-true, ltb-false}
 use Rattle.std.specs.Prelude.{if◌then◌else◌}
 use Rattle.decimal.proofs.Choices.{choice, tested}
+use Rattle.pack_rules.specs.declared.Pack.{Pack}
 use Rattle.pack_token.specs.Token.{white_len, token_len, piece_len, is_white, Token, tokens, Skipped}
 use Rattle.pack_token.proofs.Pieces.{piece, pieced, tokens_turn, no_tokens}
 use Rattle.pack_grammar.specs.Limits.{max_bytes}
@@ -116,6 +117,11 @@ onward b e s end at m next he hw hm h k =
       rest = skipped s end (at + m) next e k ∙ z.rest;
       within = omega (arith, z.within, k.bound);
     }
+
+-- ---- a pack's arrays
+
+abbrev pub arrays : Pack → Arrays
+arrays p = arrays_of p.low p.high p.columns p.relations p.keyword p.clauses
 
 -- ---- the loop of `read_pack`: it stands at a token or at the end, and what is ahead gives what the first arrays give with the whole text
 

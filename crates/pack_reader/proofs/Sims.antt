@@ -8,9 +8,10 @@ use native.Mathlib.Omega.{arith}
 use lib.Dec.{eqb, ltb}
 use lib.ListN.{length}
 use borrow.Author.Tests.{ltb-false, le-ltb}
-use Rattle.std.specs.Prelude.{Ok, Result, if◌then◌else◌}
+use Rattle.std.specs.Prelude.{Err, Ok, Result, if◌then◌else◌}
 use Rattle.decimal.proofs.Choices.{choice, tested, not_both}
 use Rattle.pack_rules.specs.Syntax.{Relation}
+use Rattle.pack_rules.specs.declared.Pack.{Pack}
 use Rattle.pack_rules.specs.Held.{held_rules}
 use Rattle.pack_token.specs.Spelling.{same}
 use Rattle.pack_token.specs.Token.{dots, differ, Token, tokens}
@@ -24,6 +25,7 @@ use Rattle.pack_grammar.specs.Steps.{Front, State, go_on, signed, step, Read, en
 use Rattle.pack_grammar.specs.Steps.State.{WantsName, WantsColon, WantsNothing, WantsOperand, HasOperand, WantsModulus, HasModulus, WantsValue, HasValue, WantsUpper, HasUpper, Dead as Died}
 use Rattle.pack_grammar.specs.Steps.Read.{Whole, Cut}
 use Rattle.pack_grammar.specs.Reader.{is_dead, Parsed, Fault, or_else, fault_at, PackAnswer, judge, read_pack}
+use Rattle.pack_grammar.specs.Reader.PackAnswer.{Rules, Refused}
 use Rattle.pack_grammar.specs.Reader.Parsed.{Trees, Bad}
 use Rattle.pack_grammar.specs.Reader.Fault.{None, At}
 use Rattle.pack_grammar.specs.WellFormed.{texts}
@@ -42,7 +44,7 @@ use Rattle.pack_walk.specs.Steps.{stop_after}
 use Rattle.pack_walk.specs.declared.Current.{Current}
 use Rattle.pack_walk.specs.declared.Walk.{Walk}
 use Rattle.pack_verdict.specs.Verdict.{read_by, judged, judged_all}
-use Rattle.pack_reader.specs.Answer.{read_of, rules_of, count_in, ReadAs}
+use Rattle.pack_reader.specs.Answer.{read_of, rules_of, ReadAs}
 use Rattle.pack_reader.specs.Board.{Arrays, Sized, Board, board_after, boards, start_walk, within4096, last_board, pack_of}
 use Rattle.pack_reader.specs.Bounds.{flat}
 use Rattle.pack_reader.proofs.Flats.{held_back}
@@ -268,34 +270,47 @@ held d c a at b =
     b.kept.ranges b.kept.relations b.kept.clauses b.kept.rules
     (append-nil (flat (map (λ (r : Relation). r.ranges) (Rs d none)))) (append-nil (flat (Cs d none))) (append-nil (closed_clauses d)) b.keyed
 
+-- the answer as a count of rules
+abbrev pub counted_of : PackAnswer → Result ℕ Refusal
+counted_of (Rules rs) = Ok (length rs)
+counted_of (Refused r) = Err r
+
+abbrev pub count_in : Result ℕ Refusal → ℕ
+count_in (Ok n) = n
+count_in (Err r) = 0
+
+pub record Counted (a : PackAnswer) (v : Result ℕ Refusal) (p : Pack) : Type 0 where
+  pub answer : v ≡ counted_of a
+  pub rules : held_rules p ≡ rules_of a
+
 -- a fault's row and place give the answer, and so does the count of rules where there is none
 by_fault : (row place n : ℕ) (f : Fault) (rs : List RuleTree) → fault_at row place ≡ f → (f ≡ None → n ≡ length (map rule_of rs))
-    → read_by row place n ≡ read_of (judge (Trees rs) f)
+    → read_by row place n ≡ counted_of (judge (Trees rs) f)
 by_fault row place n f rs e h = go (eqb row 0) refl e
   where
-    go : (b : Bool) → eqb row 0 ≡ b → (if b then None else At row place) ≡ f → read_by row place n ≡ read_of (judge (Trees rs) f)
+    go : (b : Bool) → eqb row 0 ≡ b → (if b then None else At row place) ≡ f → read_by row place n ≡ counted_of (judge (Trees rs) f)
     go true k e = rw (sym e, k) (ap Ok (h (sym e)))
     go false k e = rw (sym e, k)
 
 pub record Answered (b : Board) (p : Parsed) (f : Fault) : Type 0 where
-  pub answer : judged b.walk ≡ read_of (judge p f)
+  pub answer : judged b.walk ≡ counted_of (judge p f)
   pub rules : held_rules (pack_of b.arrays (count_in (judged b.walk))) ≡ rules_of (judge p f)
 
 answered_bad : (b : Board) (x : ℕ) (f : Fault) → Over b x → Answered b (Bad x) f
 answered_bad b x f h =
-    let v : judged b.walk ≡ read_of (judge (Bad x) f) = rw (h.phase, h.stop) in
+    let v : judged b.walk ≡ counted_of (judge (Bad x) f) = rw (h.phase, h.stop) in
     record { answer = v; rules = rw v }
 
 answered_trees : (b : Board) (d rs : List RuleTree) (f : Fault) (at : ℕ) → b.walk.phase ≡ Name → fault_at b.walk.mark.row b.walk.mark.place ≡ f
     → (f ≡ None → Base d none [] b.walk.counts b.arrays at) → rs ≡ d → Answered b (Trees rs) f
 answered_trees b d rs f at e g h q =
-    let v : judged b.walk ≡ read_of (judge (Trees rs) f) = rw e (by_fault b.walk.mark.row b.walk.mark.place b.walk.counts.rules f rs g size) in
+    let v : judged b.walk ≡ counted_of (judge (Trees rs) f) = rw e (by_fault b.walk.mark.row b.walk.mark.place b.walk.counts.rules f rs g size) in
     record { answer = v; rules = rw v (go f refl) }
   where
     size : f ≡ None → b.walk.counts.rules ≡ length (map rule_of rs)
     size k = (h k).kept.rules.count ∙ ap (λ (l : List RuleTree). length (map rule_of l)) (sym q)
 
-    go : (x : Fault) → f ≡ x → held_rules (pack_of b.arrays (count_in (read_of (judge (Trees rs) x)))) ≡ rules_of (judge (Trees rs) x)
+    go : (x : Fault) → f ≡ x → held_rules (pack_of b.arrays (count_in (counted_of (judge (Trees rs) x)))) ≡ rules_of (judge (Trees rs) x)
     go None k =
         ap (λ (n : ℕ). held_rules (pack_of b.arrays n)) (sym (size k)) ∙ held d b.walk.counts b.arrays at (h k) ∙ ap (map rule_of) (sym q)
     go (At n y) k = refl
@@ -322,17 +337,17 @@ answered a s z l = go (halt outset (tokens 0 s) (length s)) refl (outcome (token
 
 -- ANSWER: a short pack's last board has its answer and its rules
 pub answer : (a : Arrays) (s : Text) → Sized a → length s ≤ max_bytes
-    → ReadAs (read_pack s) (judged (last_board a s).walk) (pack_of (last_board a s).arrays (count_in (judged (last_board a s).walk)))
+    → Counted (read_pack s) (judged (last_board a s).walk) (pack_of (last_board a s).arrays (count_in (judged (last_board a s).walk)))
 answer a s z l =
     let e : read_pack s ≡ judge (halt outset (tokens 0 s) (length s)) (faults outset (tokens 0 s)) = rw (read_whole s, le-ltb max_bytes (length s) l) in
     let w = answered a s z l in
-    record { answer = w.answer ∙ ap read_of (sym e); rules = w.rules ∙ ap rules_of (sym e) }
+    record { answer = w.answer ∙ ap counted_of (sym e); rules = w.rules ∙ ap rules_of (sym e) }
 
 -- ---- what `read_pack` returns
 
 -- a short pack's walk, and that of any other, gives the answer
 judged_as : (a e : Arrays) (u : Walk) (s : Text) → Sized a → record { walk = u; arrays = e } ≡ last_board a (within4096 s)
-    → ReadAs (read_pack s) (judged_all (length s) u) (pack_of e (count_in (judged_all (length s) u)))
+    → Counted (read_pack s) (judged_all (length s) u) (pack_of e (count_in (judged_all (length s) u)))
 judged_as a e u s z q =
     tested (ltb max_bytes (length s))
     (λ k. record { answer = rw k; rules = rw k })
@@ -347,14 +362,36 @@ judged_as a e u s z q =
           ∙ (ap (λ (x : Board). held_rules (pack_of x.arrays (count_in (judged x.walk)))) f ∙ w.rules);
     })
 
--- whatever arrays of these sizes came first: those that are left, and what is judged of the walk, are the answer
-pub told : (a e : Arrays) (u : Walk) (s : Text) {r : Result ℕ Refusal} → Sized a → record { walk = u; arrays = e } ≡ last_board a (within4096 s)
-    → r ≡ judged_all (length s) u → ReadAs (read_pack s) r (pack_of e (count_in r))
-told a e u s z q h = subst (λ (r : Result ℕ Refusal). ReadAs (read_pack s) r (pack_of e (count_in r))) (sym h) (judged_as a e u s z q)
+-- so much of the count is told
+abbrev done : Result ℕ Refusal → Result (Unit {0}) Refusal
+done (Ok n) = Ok tt
+done (Err r) = Err r
 
--- the arrays with so many rules as are told hold the answer's
-pub rules_left : {a : PackAnswer} {r : Result ℕ Refusal} {low high columns relations keyword clauses : List ℕ}
-    → ReadAs a r (lent low high columns relations keyword clauses (count_in r)) → (n : ℕ) → r ≡ Ok n
-    → held_rules (lent low high columns relations keyword clauses n) ≡ rules_of a
-rules_left {a} {r} {low} {high} {columns} {relations} {keyword} {clauses} h n e =
-    ap (λ (k : ℕ). held_rules (lent low high columns relations keyword clauses k)) (sym (ap count_in e)) ∙ h.rules
+counted_done : (a : PackAnswer) → done (counted_of a) ≡ read_of a
+counted_done (Rules rs) = refl
+counted_done (Refused r) = refl
+
+counted_length : (a : PackAnswer) → count_in (counted_of a) ≡ length (rules_of a)
+counted_length (Rules rs) = refl
+counted_length (Refused r) = refl
+
+-- whatever arrays of these sizes came first: those that are left, and what is judged of the walk, are the answer
+told : (a e : Arrays) (u : Walk) (s : Text) {v : Result ℕ Refusal} → Sized a → record { walk = u; arrays = e } ≡ last_board a (within4096 s)
+    → v ≡ judged_all (length s) u → ReadAs (read_pack s) (done v) (pack_of e (count_in v))
+told a e u s {v} z q h =
+    let w = subst (λ (x : Result ℕ Refusal). Counted (read_pack s) x (pack_of e (count_in x))) (sym h) (judged_as a e u s z q) in
+    record {
+      answer = ap done w.answer ∙ counted_done (read_pack s);
+      rules = w.rules;
+      count = ap count_in w.answer ∙ counted_length (read_pack s);
+    }
+
+pub told_ok : (a e : Arrays) (u : Walk) (s : Text) {v : Result ℕ Refusal} (n : ℕ) → Sized a → record { walk = u; arrays = e } ≡ last_board a (within4096 s)
+    → v ≡ judged_all (length s) u → v ≡ Ok n → ReadAs (read_pack s) (Ok tt) (pack_of e n)
+told_ok a e u s n z q h k = subst (λ (x : Result ℕ Refusal). ReadAs (read_pack s) (done x) (pack_of e (count_in x))) k (told a e u s z q h)
+
+pub told_err : (a e : Arrays) (u : Walk) (s : Text) {v : Result ℕ Refusal} (r : Refusal) (n : ℕ) → Sized a → record { walk = u; arrays = e } ≡ last_board a (within4096 s)
+    → v ≡ judged_all (length s) u → v ≡ Err r → n ≡ 0 → ReadAs (read_pack s) (Err r) (pack_of e n)
+told_err a e u s r n z q h k i =
+    subst (λ (m : ℕ). ReadAs (read_pack s) (Err r) (pack_of e m)) (sym i)
+    (subst (λ (x : Result ℕ Refusal). ReadAs (read_pack s) (done x) (pack_of e (count_in x))) k (told a e u s z q h))

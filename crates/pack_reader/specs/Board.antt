@@ -100,4 +100,13 @@ last_board a s = board_after (boards (record { walk = start_walk; arrays = a }) 
 
 -- the pack of n rules in these arrays
 abbrev pub pack_of : Arrays → ℕ → Pack
-pack_of a n = lent a.low a.high a.columns a.relations a.keyword a.clauses n
+pack_of a n =
+    record {
+      low = a.low;
+      high = a.high;
+      columns = a.columns;
+      relations = a.relations;
+      keyword = a.keyword;
+      clauses = a.clauses;
+      count = n;
+    }

@@ -11,6 +11,8 @@ ghost use Rattle.pack_rules.specs.Room.{range_room, relation_room};
 ghost use Rattle.pack_rules.specs.Held.{held_rules};
 ghost use Rattle.pack_rules.specs.Stretch.{start_at, end_at, ranges_from_at, single_at};
 
+pub mod letter;
+
 pub const RANGE_ROOM: usize = 2048;
 
 pub const RELATION_ROOM: usize = 320;
@@ -30,7 +32,8 @@ pub type Keywords = [u8; RULE_ROOM];
 pub type RuleEnds = [usize; RULE_ROOM];
 
 // A pack that was read. Every array is filled from its front; what lies past the filled part means
-// nothing.
+// nothing. It is fixed memory of plain numbers: a keyword is its number, not the enum.
+#[derive(Drop)]
 pub struct Pack {
     // The ends of ranges `a..b`; a value a is the range a..a.
     pub low: RangeEnds,

@@ -4,54 +4,16 @@ use mathlib.Core.Bool.{Bool, true, false}
 use mathlib.Core.List.{List, [], ◌∷◌}
 use Prim.Native.Nat.{ℕ, zero, suc, ◌+◌, ◌-◌, ◌≤◌, ◌<◌}
 use native.Mathlib.Omega.{arith}
-use lib.Dec.{eqb, ltb}
+use lib.Dec.{eqb}
 use lib.ListN.{length, get_or, take, drop, length-drop}
-use borrow.Author.Tests.{eq-eqb, ne_eqb, eqb-false, ltb-true, ltb-false}
+use borrow.Author.Tests.{eq-eqb, ne_eqb, eqb-false, ltb-true}
 use Rattle.std.specs.Prelude.{if◌then◌else◌}
 use Rattle.decimal.specs.Digits.{is_digit}
-use Rattle.decimal.proofs.Choices.{choice, tested, not_both}
+use Rattle.decimal.proofs.Choices.{choice}
 use Rattle.decimal.proofs.Runs.{run_le, run_some}
-use Rattle.pack_token.specs.Spelling.{starts, length_of}
+use Rattle.pack_token.specs.Spelling.{starts}
 use Rattle.pack_token.specs.Token.{whites, white_len, is_white, is_letter, dots, differ, token_len, piece_len, Token, tokens_for, tokens}
 use Rattle.pack_token.proofs.Spellings.{starts_le, length_of_le}
-
--- ---- white space by its first byte: one byte, none, or one of the longer spellings
-
-abbrev pub is_blank : ℕ → Bool
-is_blank b = if ltb b 9 then false else if ltb b 14 then true else eqb b 32
-
-other : (b k : ℕ) → is_blank b ≡ false → is_blank k ≡ true → eqb b k ≡ false
-other b k h e = ne_eqb b k (λ q. not_both e (sym (ap is_blank q) ∙ h))
-
-blank_byte : (b : ℕ) → is_blank b ≡ true → (P : Type 0) → (eqb b 9 ≡ false → eqb b 10 ≡ false → eqb b 11 ≡ false → eqb b 12 ≡ false → eqb b 13 ≡ false → eqb b 32 ≡ false → P)
-blank_byte b h P e9 e10 e11 e12 e13 e32 =
-    tested (ltb b 9) (λ e. not_both h (rw e))
-    (λ e. tested (ltb b 14)
-    (λ f. absurd (no (ltb-false b 9 e) (ltb-true b 14 f) (eqb-false b 9 e9) (eqb-false b 10 e10) (eqb-false b 11 e11) (eqb-false b 12 e12) (eqb-false b 13 e13)))
-    (λ f. not_both h (rw (e, f, e32))))
-  where
-    no : 9 ≤ b → b < 14 → (b ≡ 9 → ⊥) → (b ≡ 10 → ⊥) → (b ≡ 11 → ⊥) → (b ≡ 12 → ⊥) → (b ≡ 13 → ⊥) → ⊥
-    no l m n9 n10 n11 n12 n13 = omega arith
-
-pub blank : (t : List ℕ) → is_blank (get_or t 0 0) ≡ true → white_len t ≡ 1
-blank [] h = not_both h refl
-blank (b ∷ t) h =
-    tested (eqb b 9) (λ e. rw e)
-    (λ e9. tested (eqb b 10) (λ e. rw (e9, e))
-    (λ e10. tested (eqb b 11) (λ e. rw (e9, e10, e))
-    (λ e11. tested (eqb b 12) (λ e. rw (e9, e10, e11, e))
-    (λ e12. tested (eqb b 13) (λ e. rw (e9, e10, e11, e12, e))
-    (λ e13. tested (eqb b 32) (λ e. rw (e9, e10, e11, e12, e13, e)) (λ e32. blank_byte b h _ e9 e10 e11 e12 e13 e32))))))
-
-pub plain : (t : List ℕ) → is_blank (get_or t 0 0) ≡ false → get_or t 0 0 < 128 → white_len t ≡ 0
-plain [] h l = refl
-plain (b ∷ t) h l =
-    rw (other b 9 h refl, other b 10 h refl, other b 11 h refl, other b 12 h refl, other b 13 h refl, other b 32 h refl, ne_eqb b 194 (λ e. omega arith), ne_eqb b 226 (λ e. omega arith))
-
-pub wide : (t : List ℕ) → 128 ≤ get_or t 0 0 → white_len t ≡ length_of (drop 6 whites) t
-wide [] h = absurd (omega arith)
-wide (b ∷ t) h =
-    rw (ne_eqb b 9 (λ e. omega arith), ne_eqb b 10 (λ e. omega arith), ne_eqb b 11 (λ e. omega arith), ne_eqb b 12 (λ e. omega arith), ne_eqb b 13 (λ e. omega arith), ne_eqb b 32 (λ e. omega arith))
 
 -- ---- how long a piece is
 

@@ -1,16 +1,15 @@
 -- Laws of byte strings: sameness, and beginnings.
-use mathlib.Core.Path.{◌≡◌, refl, sym, ap}
+use mathlib.Core.Path.{◌≡◌, refl, sym}
 use mathlib.Core.Bool.{Bool, true, false}
 use mathlib.Core.List.{List, [], ◌∷◌}
-use Prim.Native.Nat.{ℕ, suc, ◌+◌, ◌≤◌, ◌<◌}
+use Prim.Native.Nat.{ℕ, ◌≤◌, ◌<◌}
 use native.Mathlib.Omega.{arith}
-use native.Mathlib.Numerals.{add-one}
 use lib.Dec.{eqb}
-use lib.ListN.{length, get_or, drop, drop_of_length-le}
-use lib.Seq.{drop-cons}
+use lib.ListN.{length, get_or}
 use borrow.Author.Tests.{eq-eqb, ne_eqb, eqb-true}
+use Rattle.std.specs.Cmp.Lexicographic.{pointwise}
 use Rattle.decimal.specs.Choice.{both}
-use Rattle.decimal.proofs.Choices.{choice, not_both}
+use Rattle.decimal.proofs.Choices.{choice, tested, not_both}
 use Rattle.pack_token.specs.Spelling.{same, starts, length_of}
 
 -- ---- two tests that both hold
@@ -38,40 +37,33 @@ pub same_refl : (s : List ℕ) → same s s ≡ true
 same_refl [] = refl
 same_refl (x ∷ s) = rw (eq-eqb x x refl) (same_refl s)
 
-pub same_not : (s w : List ℕ) → (length s ≡ length w → ⊥) → same s w ≡ false
-same_not s w h = go (same s w) refl
-  where
-    go : (b : Bool) → same s w ≡ b → b ≡ false
-    go true e = absurd (h (ap length (same_eq s w e)))
-    go false e = refl
+-- a shorter text is not the same, nor is a longer one
+pub same_shorter : (s w : List ℕ) → length s < length w → same s w ≡ false
+same_shorter [] [] h = absurd (omega arith)
+same_shorter [] (y ∷ w) h = refl
+same_shorter (x ∷ s) [] h = absurd (omega arith)
+same_shorter (x ∷ s) (y ∷ w) h = tested (eqb x y) (λ e. rw e (same_shorter s w (omega arith))) (λ e. rw e)
 
--- ---- a byte string at a place, compared byte by byte
+pub same_longer : (s w : List ℕ) → length w < length s → same s w ≡ false
+same_longer [] w h = absurd (omega arith)
+same_longer (x ∷ s) [] h = refl
+same_longer (x ∷ s) (y ∷ w) h = tested (eqb x y) (λ e. rw e (same_longer s w (omega arith))) (λ e. rw e)
 
-pub starts_done : (w t : List ℕ) (i : ℕ) → length w ≤ i → starts (drop i w) t ≡ true
-starts_done w t i h = rw (drop_of_length-le w h)
+-- nor is one whose first or second byte is another
+pub same_first : (s : List ℕ) (b : ℕ) (w : List ℕ) → (get_or s 0 0 ≡ b → ⊥) → same s (b ∷ w) ≡ false
+same_first [] b w h = refl
+same_first (x ∷ s) b w h = rw (ne_eqb x b h)
 
-pub starts_end : (w s : List ℕ) (i j : ℕ) → i < length w → length s ≤ j → starts (drop i w) (drop j s) ≡ false
-starts_end w s i j h k = rw (drop-cons w i 0 h, drop_of_length-le s k)
+pub same_second : (s : List ℕ) (a b : ℕ) (w : List ℕ) → (get_or s 1 0 ≡ b → ⊥) → same s (a ∷ b ∷ w) ≡ false
+same_second [] a b w h = refl
+same_second (x ∷ s) a b w h = tested (eqb x a) (λ e. rw e (same_first s b w h)) (λ e. rw e)
 
-pub starts_differ : (w s : List ℕ) (i j : ℕ) → i < length w → j < length s → (get_or s j 0 ≡ get_or w i 0 → ⊥) → starts (drop i w) (drop j s) ≡ false
-starts_differ w s i j h k d = rw (drop-cons w i 0 h, drop-cons s j 0 k, ne_eqb _ _ d)
-
-pub starts_step : (w s : List ℕ) (i j : ℕ) → i < length w → j < length s → get_or s j 0 ≡ get_or w i 0
-    → starts (drop i w) (drop j s) ≡ starts (drop (i + 1) w) (drop (j + 1) s)
-starts_step w s i j h k d = rw (drop-cons w i 0 h, drop-cons s j 0 k, eq-eqb _ _ d, add-one i, add-one j)
-
--- a text of the same length that begins with w is w
-pub same_starts : (s w : List ℕ) → length s ≡ length w → starts w s ≡ same s w
-same_starts [] [] e = refl
-same_starts [] (y ∷ w) e = absurd (no e)
-  where
-    no : 0 ≡ suc (length w) → ⊥
-    no k = omega arith
-same_starts (x ∷ s) [] e = absurd (no e)
-  where
-    no : suc (length s) ≡ 0 → ⊥
-    no k = omega arith
-same_starts (x ∷ s) (y ∷ w) e = ap (both (eqb x y)) (same_starts s w (omega arith))
+-- so it is what `==` of two slices answers
+pub pointwise_same : (s t : List ℕ) → pointwise eqb s t ≡ same s t
+pointwise_same [] [] = refl
+pointwise_same [] (y ∷ t) = refl
+pointwise_same (x ∷ s) [] = refl
+pointwise_same (x ∷ s) (y ∷ t) = tested (eqb x y) (λ e. rw e (pointwise_same s t)) (λ e. rw e)
 
 -- what a text begins with is no longer than it
 pub starts_le : (w s : List ℕ) → starts w s ≡ true → length w ≤ length s
@@ -82,3 +74,6 @@ starts_le (x ∷ w) (y ∷ s) e = omega (arith, starts_le w s (both_1 (eqb y x) 
 pub length_of_le : (ws : List (List ℕ)) (s : List ℕ) → length_of ws s ≤ length s
 length_of_le [] s = omega arith
 length_of_le (w ∷ ws) s = choice (λ n. n ≤ length s) (starts w s) (λ e. starts_le w s e) (λ _. length_of_le ws s)
+
+-- what tells a text apart from another, for a match on its bytes
+pub ruleset spellings = (same_shorter, same_longer, same_first, same_second)

@@ -11,52 +11,42 @@ ghost use Rattle.pack_verdict.specs.Verdict.{read_by, judged, judged_all};
 
 use answer::{PackRow, Place, Refusal};
 use pack_grammar::MAX_BYTES;
-use pack_phase::{Phase, same_phase};
+use pack_phase::Phase;
 use pack_walk::Walk;
-
-// How many rules a pack has, or why it is not read.
 
 fn row_of(n: u8) -> PackRow
     ensures { result ≡ row_of n }
 {
-    if n == 22 {
-        return PackRow::ValueTooLarge;
+    match n {
+        22 => PackRow::ValueTooLarge,
+        23 => PackRow::UnlistedModulus,
+        24 => PackRow::RangeReversed,
+        25 => PackRow::BadKeyword,
+        _ => PackRow::TooMany,
     }
-    if n == 23 {
-        return PackRow::UnlistedModulus;
-    }
-    if n == 24 {
-        return PackRow::RangeReversed;
-    }
-    if n == 25 {
-        return PackRow::BadKeyword;
-    }
-    PackRow::TooMany
 }
 
 // By a fault's row and place: n rules where there is no fault.
 fn read_by(row: u8, place: usize, n: usize) -> Result<usize, Refusal>
     ensures { result ≡ read_by row place n }
 {
-    if row == 0 {
-        return Ok(n);
+    match row {
+        0 => Ok(n),
+        _ => Err(Refusal::Pack(row_of(row), Place(place))),
     }
-    Err(Refusal::Pack(row_of(row), Place(place)))
 }
 
 fn judge(w: Walk) -> Result<usize, Refusal>
     ensures { result ≡ judged w }
 {
-    let p = w.phase;
-    let c = w.counts;
-    let m = w.mark;
-    if same_phase(p, Phase::Name) {
-        return read_by(m.row, m.place, c.rules);
+    if w.phase == Phase::Name {
+        read_by(w.mark.row, w.mark.place, w.counts.rules)
+    } else {
+        Err(Refusal::Pack(PackRow::NotAPack, Place(w.mark.stop)))
     }
-    Err(Refusal::Pack(PackRow::NotAPack, Place(m.stop)))
 }
 
-// The answer at the end of a pack of n bytes.
+// The answer at the end of a pack of n bytes: how many rules it has, or why it is not read.
 pub fn judge_all(n: usize, w: Walk) -> Result<usize, Refusal>
     ensures { result ≡ judged_all n w }
 {

@@ -2,25 +2,26 @@
 // and the first fault.
 //
 // specs/Steps.antt has the change as definitions; the functions are those. Every function is total.
-#![tactic(auto)]
+#![tactic(auto, using(pack_token::proofs::Spellings::spellings))]
 
-ghost use Rattle.std.specs.Prelude.{◌≡◌, []};
+ghost use Rattle.std.specs.Prelude.{◌≡◌, false, []};
 ghost use Rattle.pack_token.specs.Spelling.{same};
+ghost use Rattle.pack_token.specs.Token.{differ};
 ghost use Rattle.pack_grammar.specs.Grammar.{other};
 ghost use Rattle.pack_counts.specs.Counts.{nothing};
 ghost use Rattle.pack_walk.specs.Steps.{current_after, step_by, step_after};
 
-use pack_counts::{Closes, Counts, counts_each, ends_bare, ends_relation, none};
+use pack_counts::{Closes, Counts, NOTHING, counts_each, ends_bare, ends_relation};
 use pack_faults::{
     Mark, capped_value, held_before, is_modulus, keyword_number, mark_after, name_row, operand_row,
-    pick_byte, upper_row, value_row,
+    upper_row, value_row,
 };
 use pack_phase::{Phase, next_phase};
-use pack_token::{first_byte, same_text};
+use pack_token::first_byte;
 
 // What is being read: the rule's keyword number, the relation's operand, modulus and sign, the last value, and
 // whether the token before was `other`.
-#[derive(Clone, Copy)]
+#[derive(Clone, Copy, Default)]
 pub struct Current {
     pub key: u8,
     pub operand: u8,
@@ -52,7 +53,13 @@ pub struct Step {
 fn is_other(t: &[u8]) -> bool
     ensures { result ≡ same t.now other }
 {
-    same_text(t, b"other")
+    matches!(t, b"other")
+}
+
+fn is_differ(t: &[u8]) -> bool
+    ensures { result ≡ same t.now differ }
+{
+    matches!(t, b"!=")
 }
 
 // What is being read, but for whether the token is `other`.
@@ -60,12 +67,21 @@ fn kept(o: Current, t: &[u8]) -> Current
     ensures { result ≡ current_after o Phase.Colon t.now 0 o.key }
 {
     Current {
-        key: o.key,
-        operand: o.operand,
-        modulus: o.modulus,
-        negated: o.negated,
-        low: o.low,
         other: is_other(t),
+        ..o
+    }
+}
+
+// What a token does that has no value, closes nothing and ends nothing.
+fn plain(walk: Walk) -> Step
+    ensures { result ≡ record { walk = walk; value = 0; closes = nothing; starts = false; ends = false } }
+{
+    Step {
+        walk,
+        value: 0,
+        closes: NOTHING,
+        starts: false,
+        ends: false,
     }
 }
 
@@ -73,133 +89,79 @@ fn kept(o: Current, t: &[u8]) -> Current
 fn at_name(q: Phase, t: &[u8], at: usize, keys: &[u8], w: Walk) -> Step
     ensures { result ≡ step_by Phase.Name nothing q t.now at keys.now w }
 {
-    let c = w.counts;
-    let o = w.current;
-    let m = w.mark;
     let key = keyword_number(t);
-    let again = held_before(keys, c.rules, key);
-    Step {
-        walk: Walk {
-            phase: q,
-            counts: c,
-            current: Current {
-                key: key,
-                operand: o.operand,
-                modulus: o.modulus,
-                negated: o.negated,
-                low: o.low,
-                other: is_other(t),
-            },
-            mark: mark_after(m, at, name_row(key, again), at),
+    let again = held_before(keys, w.counts.rules, key);
+    plain(Walk {
+        phase: q,
+        current: Current {
+            key,
+            ..kept(w.current, t)
         },
-        value: 0,
-        closes: none(),
-        starts: false,
-        ends: false,
-    }
+        mark: mark_after(w.mark, at, name_row(key, again), at),
+        ..w
+    })
 }
 
 // `:`, which changes nothing but the phase.
 fn at_colon(q: Phase, t: &[u8], at: usize, w: Walk) -> Step
     ensures { result ≡ step_by Phase.Colon nothing q t.now at [] w }
 {
-    let c = w.counts;
-    let o = w.current;
-    let m = w.mark;
-    Step {
-        walk: Walk {
-            phase: q,
-            counts: c,
-            current: kept(o, t),
-            mark: mark_after(m, at, 0, at),
-        },
-        value: 0,
-        closes: none(),
-        starts: false,
-        ends: false,
-    }
+    plain(Walk {
+        phase: q,
+        current: kept(w.current, t),
+        mark: mark_after(w.mark, at, 0, at),
+        ..w
+    })
 }
 
 fn at_operand(q: Phase, t: &[u8], at: usize, w: Walk) -> Step
     ensures { result ≡ step_by Phase.Operand nothing q t.now at [] w }
 {
-    let c = w.counts;
-    let o = w.current;
-    let m = w.mark;
-    Step {
-        walk: Walk {
-            phase: q,
-            counts: c,
-            current: Current {
-                key: o.key,
-                operand: first_byte(t),
-                modulus: 0,
-                negated: o.negated,
-                low: o.low,
-                other: is_other(t),
-            },
-            mark: mark_after(m, at, operand_row(c.parted, c.joined), at),
+    let row = operand_row(w.counts.parted, w.counts.joined);
+    plain(Walk {
+        phase: q,
+        current: Current {
+            operand: first_byte(t),
+            modulus: 0,
+            ..kept(w.current, t)
         },
-        value: 0,
-        closes: none(),
-        starts: false,
-        ends: false,
-    }
+        mark: mark_after(w.mark, at, row, at),
+        ..w
+    })
 }
 
 // `%`, `=` or `!=`.
 fn at_sign(q: Phase, t: &[u8], at: usize, w: Walk) -> Step
     ensures { result ≡ step_by Phase.ModulusOrSign nothing q t.now at [] w }
 {
-    let c = w.counts;
-    let o = w.current;
-    let m = w.mark;
-    Step {
-        walk: Walk {
-            phase: q,
-            counts: c,
-            current: Current {
-                key: o.key,
-                operand: o.operand,
-                modulus: o.modulus,
-                negated: same_text(t, b"!="),
-                low: o.low,
-                other: is_other(t),
-            },
-            mark: mark_after(m, at, 0, at),
+    plain(Walk {
+        phase: q,
+        current: Current {
+            negated: is_differ(t),
+            ..kept(w.current, t)
         },
-        value: 0,
-        closes: none(),
-        starts: false,
-        ends: false,
-    }
+        mark: mark_after(w.mark, at, 0, at),
+        ..w
+    })
 }
 
 fn at_modulus(q: Phase, t: &[u8], at: usize, w: Walk) -> Step
     ensures { result ≡ step_by Phase.Modulus nothing q t.now at [] w }
 {
-    let c = w.counts;
-    let o = w.current;
-    let m = w.mark;
-    let v = capped_value(t);
-    Step {
-        walk: Walk {
-            phase: q,
-            counts: c,
-            current: Current {
-                key: o.key,
-                operand: o.operand,
-                modulus: v,
-                negated: o.negated,
-                low: o.low,
-                other: is_other(t),
-            },
-            mark: mark_after(m, at, pick_byte(is_modulus(v), 0, 23), at),
+    let value = capped_value(t);
+    let row = if is_modulus(value) { 0 } else { 23 };
+    let walk = Walk {
+        phase: q,
+        current: Current {
+            modulus: value,
+            ..kept(w.current, t)
         },
-        value: v,
-        closes: none(),
-        starts: false,
-        ends: false,
+        mark: mark_after(w.mark, at, row, at),
+        ..w
+    };
+    Step {
+        value,
+        ..plain(walk)
     }
 }
 
@@ -207,28 +169,20 @@ fn at_modulus(q: Phase, t: &[u8], at: usize, w: Walk) -> Step
 fn at_value(q: Phase, t: &[u8], at: usize, w: Walk) -> Step
     ensures { result ≡ step_by Phase.Value nothing q t.now at [] w }
 {
-    let c = w.counts;
-    let o = w.current;
-    let m = w.mark;
-    let v = capped_value(t);
-    Step {
-        walk: Walk {
-            phase: q,
-            counts: counts_each(c, true, none()),
-            current: Current {
-                key: o.key,
-                operand: o.operand,
-                modulus: o.modulus,
-                negated: o.negated,
-                low: v,
-                other: is_other(t),
-            },
-            mark: mark_after(m, at, value_row(v, c.values), at),
+    let value = capped_value(t);
+    let walk = Walk {
+        phase: q,
+        counts: counts_each(w.counts, true, NOTHING),
+        current: Current {
+            low: value,
+            ..kept(w.current, t)
         },
-        value: v,
-        closes: none(),
+        mark: mark_after(w.mark, at, value_row(value, w.counts.values), at),
+    };
+    Step {
+        value,
         starts: true,
-        ends: false,
+        ..plain(walk)
     }
 }
 
@@ -236,20 +190,15 @@ fn at_value(q: Phase, t: &[u8], at: usize, w: Walk) -> Step
 fn at_close(x: Closes, q: Phase, t: &[u8], at: usize, w: Walk) -> Step
     ensures { result ≡ step_by Phase.DotsOrMore x q t.now at [] w }
 {
-    let c = w.counts;
-    let o = w.current;
-    let m = w.mark;
+    let walk = Walk {
+        phase: q,
+        counts: counts_each(w.counts, false, x),
+        current: kept(w.current, t),
+        mark: mark_after(w.mark, at, 0, at),
+    };
     Step {
-        walk: Walk {
-            phase: q,
-            counts: counts_each(c, false, x),
-            current: kept(o, t),
-            mark: mark_after(m, at, 0, at),
-        },
-        value: 0,
         closes: x,
-        starts: false,
-        ends: false,
+        ..plain(walk)
     }
 }
 
@@ -257,21 +206,17 @@ fn at_close(x: Closes, q: Phase, t: &[u8], at: usize, w: Walk) -> Step
 fn at_upper(q: Phase, t: &[u8], at: usize, w: Walk) -> Step
     ensures { result ≡ step_by Phase.Upper nothing q t.now at [] w }
 {
-    let c = w.counts;
-    let o = w.current;
-    let m = w.mark;
-    let v = capped_value(t);
+    let value = capped_value(t);
+    let walk = Walk {
+        phase: q,
+        current: kept(w.current, t),
+        mark: mark_after(w.mark, at, upper_row(value, w.current.low), at),
+        ..w
+    };
     Step {
-        walk: Walk {
-            phase: q,
-            counts: c,
-            current: kept(o, t),
-            mark: mark_after(m, at, upper_row(v, o.low), at),
-        },
-        value: v,
-        closes: none(),
-        starts: false,
+        value,
         ends: true,
+        ..plain(walk)
     }
 }
 
@@ -279,59 +224,29 @@ fn at_upper(q: Phase, t: &[u8], at: usize, w: Walk) -> Step
 fn at_dead(t: &[u8], at: usize, w: Walk) -> Step
     ensures { result ≡ step_by Phase.Dead nothing Phase.Dead t.now at [] w }
 {
-    let c = w.counts;
-    let o = w.current;
-    let m = w.mark;
-    Step {
-        walk: Walk {
-            phase: Phase::Dead,
-            counts: c,
-            current: kept(o, t),
-            mark: mark_after(m, m.stop, 0, at),
-        },
-        value: 0,
-        closes: none(),
-        starts: false,
-        ends: false,
-    }
+    plain(Walk {
+        phase: Phase::Dead,
+        current: kept(w.current, t),
+        mark: mark_after(w.mark, w.mark.stop, 0, at),
+        ..w
+    })
 }
 
 // What the token t at a place does; `keys`: the keyword numbers of the rules so far.
 pub fn step_after(t: &[u8], at: usize, keys: &[u8], w: Walk) -> Step
     ensures { result ≡ step_after t.now at keys.now w }
 {
-    let p = w.phase;
-    let o = w.current;
-    match p {
-        Phase::Name => at_name(next_phase(Phase::Name, o.other, t), t, at, keys, w),
-        Phase::Colon => at_colon(next_phase(Phase::Colon, o.other, t), t, at, w),
-        Phase::Nothing => at_close(
-            ends_bare(t),
-            next_phase(Phase::Nothing, o.other, t),
-            t,
-            at,
-            w,
-        ),
-        Phase::Operand => at_operand(next_phase(Phase::Operand, o.other, t), t, at, w),
-        Phase::ModulusOrSign => at_sign(next_phase(Phase::ModulusOrSign, o.other, t), t, at, w),
-        Phase::Modulus => at_modulus(next_phase(Phase::Modulus, o.other, t), t, at, w),
-        Phase::Sign => at_sign(next_phase(Phase::Sign, o.other, t), t, at, w),
-        Phase::Value => at_value(next_phase(Phase::Value, o.other, t), t, at, w),
-        Phase::DotsOrMore => at_close(
-            ends_relation(t),
-            next_phase(Phase::DotsOrMore, o.other, t),
-            t,
-            at,
-            w,
-        ),
-        Phase::Upper => at_upper(next_phase(Phase::Upper, o.other, t), t, at, w),
-        Phase::More => at_close(
-            ends_relation(t),
-            next_phase(Phase::More, o.other, t),
-            t,
-            at,
-            w,
-        ),
+    let q = next_phase(w.phase, w.current.other, t);
+    match w.phase {
+        Phase::Name => at_name(q, t, at, keys, w),
+        Phase::Colon => at_colon(q, t, at, w),
+        Phase::Nothing => at_close(ends_bare(t), q, t, at, w),
+        Phase::Operand => at_operand(q, t, at, w),
+        Phase::ModulusOrSign | Phase::Sign => at_sign(q, t, at, w),
+        Phase::Modulus => at_modulus(q, t, at, w),
+        Phase::Value => at_value(q, t, at, w),
+        Phase::DotsOrMore | Phase::More => at_close(ends_relation(t), q, t, at, w),
+        Phase::Upper => at_upper(q, t, at, w),
         Phase::Dead => at_dead(t, at, w),
     }
 }

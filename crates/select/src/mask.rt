@@ -36,12 +36,10 @@ pub fn met_mask(pack: &Pack, count: usize, x: Number) -> u32
     let rules = count.min(RULE_ROOM);
     let mut mask: u32 = 0;
     let mut bit: u32 = 0;
-    let mut j = 0;
-    while j < rules {
+    for j in 0..rules {
         let met = met_at(pack, j, x);
         mask = with_bit(mask, bit, met);
         bit += 1;
-        j += 1;
     }
     mask
 }

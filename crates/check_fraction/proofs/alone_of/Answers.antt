@@ -1,6 +1,6 @@
 -- `check_fraction::alone_of` is a search that asks t only.
 use mathlib.Core.Path.{◌∙◌}
-use Rattle.pack_rules.specs.Stretch.{table, table_of}
+use Rattle.pack_rules.specs.Stretch.{table_of}
 use Rattle.check_laws.specs.Read.{joined_in}
 use Rattle.check_laws.proofs.Placing.{alone_is}
 use Rattle.check_laws.proofs.Readying.{alone_ready}

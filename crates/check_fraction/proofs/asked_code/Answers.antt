@@ -1,5 +1,5 @@
 -- `check_fraction::asked_code`: no v has room, the bound is reached, or a search at each count of zeros.
-use Rattle.pack_rules.specs.Stretch.{table, table_of}
+use Rattle.pack_rules.specs.Stretch.{table_of}
 use Rattle.check_laws.specs.Read.{joined_in}
 use Rattle.check_laws.specs.Bounded.{bounded}
 use mathlib.Core.Path.{◌∙◌}

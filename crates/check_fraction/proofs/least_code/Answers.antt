@@ -1,5 +1,5 @@
 -- `check_fraction::least_code` takes the least over the zeros at the end. Invariant: the best is that of fewer than k zeros.
-use Rattle.pack_rules.specs.Stretch.{table, table_of}
+use Rattle.pack_rules.specs.Stretch.{table_of}
 use Rattle.check_laws.specs.Read.{joined_in}
 use Rattle.check_laws.specs.Bounded.{bounded}
 use native.Mathlib.Omega.{arith}
@@ -29,7 +29,7 @@ loop-k-preserved c =
     let T = table_of a.pack.now in
     let x = joined_in T a.s in
     let d = bounded a.b x in
-    (omega (arith, c.loop-k-test.true), part_more d c.loop-k.best c.tail_code.result c.lesser-best.result c.loop-k.k c.loop-k.invariant.1 c.tail_code.ensures c.lesser-best.ensures)
+    (omega (arith, c.loop-k-test.true), part_more d c.loop-k.best c.tail_code.result c.min-best.result c.loop-k.k c.loop-k.invariant.1 c.tail_code.ensures c.min-best.ensures)
 
 pub returns : goal.returns
 returns c =

@@ -1,5 +1,5 @@
 -- `check_fraction::least_f` is a search that asks f only.
-use Rattle.pack_rules.specs.Stretch.{table, table_of}
+use Rattle.pack_rules.specs.Stretch.{table_of}
 use Rattle.check_laws.specs.Read.{joined_in}
 use mathlib.Core.Path.{◌∙◌}
 use native.Mathlib.Omega.{arith}

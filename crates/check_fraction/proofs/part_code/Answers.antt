@@ -1,5 +1,5 @@
 -- `check_fraction::part_code`: no t, or the least over the zeros at the end, by whether f is asked.
-use Rattle.pack_rules.specs.Stretch.{table, table_of}
+use Rattle.pack_rules.specs.Stretch.{table_of}
 use Rattle.check_laws.specs.Read.{joined_in}
 use Rattle.check_laws.specs.Bounded.{bounded}
 use mathlib.Core.Path.{sym, ◌∙◌}

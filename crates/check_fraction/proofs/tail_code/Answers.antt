@@ -1,7 +1,7 @@
 -- `check_fraction::tail_code`: no v, no v with room for t, or the least v with the least t.
 use mathlib.Core.Path.{◌∙◌}
 use native.Mathlib.Omega.{arith}
-use Rattle.pack_rules.specs.Stretch.{table, table_of}
+use Rattle.pack_rules.specs.Stretch.{table_of}
 use Rattle.check_laws.specs.Bounded.{bounded}
 use Rattle.check_laws.specs.Read.{joined_in}
 use Rattle.check_laws.proofs.Bounding.{bounded_tail}

@@ -1,6 +1,6 @@
 -- `check_fraction::tail_of` is a search with the factor 10 ^ k for f.
 use mathlib.Core.Path.{◌∙◌}
-use Rattle.pack_rules.specs.Stretch.{table, table_of}
+use Rattle.pack_rules.specs.Stretch.{table_of}
 use Rattle.check_laws.specs.Read.{joined_in}
 use Rattle.check_laws.proofs.Flooring.{below_alone, below_tail}
 use Rattle.check_laws.proofs.Placing.{tail_is}

@@ -1,6 +1,6 @@
 -- `check_least::least_number` searches where there is room.
 use mathlib.Core.Path.{sym, ◌∙◌}
-use Rattle.pack_rules.specs.Stretch.{table, table_of}
+use Rattle.pack_rules.specs.Stretch.{table_of}
 use Rattle.check_laws.proofs.Readying.{ready_room, ready_fit}
 use Rattle.check_least.proofs.Searching.{answer_ready, answer_not}
 use Rattle.check_least.proofs.least_number.Goals as goal

@@ -1,6 +1,6 @@
 -- `check_pairs::check`: the profiles and floors are filled in, and the pairs in turn are those of the rules that the pack holds.
 use native.Mathlib.Omega.{arith}
-use Rattle.pack_rules.specs.Stretch.{table, table_of}
+use Rattle.pack_rules.specs.Stretch.{table_of}
 use Rattle.check_laws.proofs.Flooring.{floored_fresh}
 use Rattle.check_laws.proofs.Holding.{held_is}
 use Rattle.check_laws.proofs.Profiles.{profiled_rules}
@@ -8,7 +8,7 @@ use borrow.Author.Rules.{rules}
 use Rattle.check_pairs.proofs.check.Goals as goal
 
 pub clauses_end-end-requires : goal.clauses_end-end-requires
-clauses_end-end-requires c = omega (arith, c.rule_count-n.ensures)
+clauses_end-end-requires c = omega (arith, c.min-n.ensures)
 
 pub fill-requires : goal.fill-requires
 fill-requires c = c.clauses_end-end.ensures.0
@@ -21,7 +21,7 @@ fill-requires-2 c =
 pub first_pair-requires : goal.first_pair-requires
 first_pair-requires c =
     let a = c.args in
-    let n = c.rule_count-n in
+    let n = c.min-n in
     let e = c.clauses_end-end in
     let f = c.fill in
     record {
@@ -32,7 +32,7 @@ first_pair-requires c =
 pub returns : goal.returns
 returns c =
     let a = c.args in
-    let n = c.rule_count-n in
+    let n = c.min-n in
     held_is (a.pack.now) n.result c.first_pair.result
     (record {
       low = (search rules);

@@ -15,7 +15,7 @@ clauses-clash a b = clash_of (record { keyword = Other; clauses = a }) (record {
 pub returns : goal.returns
 returns c =
     let a = c.args in
-    let n = c.rule_count-n in
+    let n = c.min-n in
     held_by clauses-clash (a.pack.now) n.result c.first_pair.result
     (record {
       low = (search rules);

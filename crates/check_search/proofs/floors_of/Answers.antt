@@ -1,6 +1,6 @@
 -- `check_search::floors_of` is three searches from 0 on, where 0 is a floor.
 use native.Mathlib.Omega.{arith}
-use Rattle.pack_rules.specs.Stretch.{table, table_of}
+use Rattle.pack_rules.specs.Stretch.{table_of}
 use Rattle.check_laws.specs.Read.{joined_in}
 use Rattle.check_laws.specs.declared.Floors.{Floors}
 use Rattle.check_laws.proofs.Flooring.{found_integer, found_tail, under_found}

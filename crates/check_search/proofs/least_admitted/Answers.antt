@@ -1,5 +1,5 @@
 -- `check_search::least_admitted` is the search that is run, and that is the definition's.
-use Rattle.pack_rules.specs.Stretch.{table, table_of}
+use Rattle.pack_rules.specs.Stretch.{table_of}
 use Rattle.check_laws.specs.Read.{joined_in}
 use Rattle.check_laws.specs.Spots.{spot_rank}
 use mathlib.Core.Path.{sym, subst}

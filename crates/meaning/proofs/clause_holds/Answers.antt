@@ -1,7 +1,6 @@
 -- `meaning::clause_holds` tests a stretch of relations. The invariant: what is left decides as the whole does.
 use Rattle.pack_rules.specs.declared.Single.{Single}
 use mathlib.Core.Path.{sym, ap, ◌∙◌}
-use borrow.Author.Tests.{not-true, not-false}
 use Rattle.pack_rules.specs.Syntax.{Relation}
 use Rattle.pack_rules.specs.Stretch.{relation_by, table_of, relation_at}
 use Rattle.meaning.specs.Meaning.{holds}
@@ -15,7 +14,7 @@ returns-then-not-relation_holds c =
     let T = table_of a.pack.now in
     let h = c.relation_holds in
     let e = h.ensures ∙ ap (λ (s : Single). holds (relation_by a.pack.now.low a.pack.now.high s) a.x) c.single_at.ensures.value in
-    sym (sym l.invariant ∙ all_failed (λ (r : Relation). holds r a.x) (relation_at T) l.j a.to c.loop-j-test.true (sym e ∙ not-true h.result c.if-not-relation_holds.true-raw))
+    sym (sym l.invariant ∙ all_failed (λ (r : Relation). holds r a.x) (relation_at T) l.j a.to c.loop-j-test.true (sym e ∙ c.if-not-relation_holds.true))
 
 pub loop-j-preserved : goal.loop-j-preserved
 loop-j-preserved c =
@@ -24,7 +23,7 @@ loop-j-preserved c =
     let T = table_of a.pack.now in
     let h = c.relation_holds in
     let e = h.ensures ∙ ap (λ (s : Single). holds (relation_by a.pack.now.low a.pack.now.high s) a.x) c.single_at.ensures.value in
-    sym (all_next (λ (r : Relation). holds r a.x) (relation_at T) l.j a.to c.loop-j-test.true (sym e ∙ not-false h.result c.if-not-relation_holds.false-raw)) ∙ l.invariant
+    sym (all_next (λ (r : Relation). holds r a.x) (relation_at T) l.j a.to c.loop-j-test.true (sym e ∙ c.if-not-relation_holds.false)) ∙ l.invariant
 
 pub returns : goal.returns
 returns c =

@@ -2,7 +2,7 @@
 use mathlib.Core.Path.{◌≡◌, sym, ◌∙◌}
 use mathlib.Core.List.{List}
 use Rattle.pack_rules.specs.Syntax.{Relation}
-use Rattle.pack_rules.specs.Stretch.{table, table_of, clause_at}
+use Rattle.pack_rules.specs.Stretch.{table_of, clause_at}
 use Rattle.meaning.specs.Meaning.{clause_holds}
 use Rattle.meaning.proofs.Meanings.{any_found, any_next, any_none}
 use Rattle.meaning.proofs.condition_holds.Goals as goal

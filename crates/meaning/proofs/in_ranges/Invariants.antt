@@ -1,6 +1,5 @@
 -- `meaning::in_ranges` looks through a stretch of ranges. The invariant: what is left decides as the whole does.
 use mathlib.Core.Path.{◌≡◌}
-use Prim.Native.Nat.{◌-◌}
 use Rattle.decimal.specs.Lists.{any}
 use Rattle.pack_rules.specs.Stretch.{ranges_in}
 use Rattle.meaning.specs.Meaning.{in_range}
@@ -8,6 +7,3 @@ use Rattle.meaning.proofs.in_ranges.Given as goal
 
 abbrev pub invariant-loop-k : goal.invariant-loop-k
 invariant-loop-k l = any (in_range l.x) (ranges_in l.pack.low l.pack.high l.k l.to) ≡ any (in_range l.x) (ranges_in l.pack.low l.pack.high l.from l.to)
-
-abbrev pub decreases-loop-k : goal.decreases-loop-k
-decreases-loop-k l = l.to - l.k

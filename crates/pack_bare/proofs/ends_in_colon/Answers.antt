@@ -18,7 +18,8 @@ returns-then-token_is c =
     c.ends.ensures
     ∙ found s _ c.skip_white-at.result 58 [] [] c.skip_white-at.ensures (sym c.token_is.ensures ∙ c.if-token_is.true)
 
-pub returns : goal.returns
-returns c =
+pub returns-else-token_is : goal.returns-else-token_is
+returns-else-token_is c =
     let s = c.args.s.now in
-    missed s _ c.skip_white-at.result colon [] c.skip_white-at.ensures (sym c.token_is.ensures ∙ c.if-token_is.false)
+    c.if-token_is.false
+    ∙ missed s _ c.skip_white-at.result colon [] c.skip_white-at.ensures (sym c.token_is.ensures ∙ c.if-token_is.false)

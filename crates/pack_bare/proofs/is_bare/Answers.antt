@@ -17,9 +17,10 @@ returns-then-token_is c =
     ∙ rw l
     (found s 0 c.skip_white-at.result 111 (drop 1 other) (colon ∷ []) c.skip_white-at.ensures (sym c.token_is.ensures ∙ c.if-token_is.true))
 
-pub returns : goal.returns
-returns c =
+pub returns-else-token_is : goal.returns-else-token_is
+returns-else-token_is c =
     let s = c.args.text.now in
     let l = le-leb (length s) max_bytes (omega arith) in
-    rw l
+    c.if-token_is.false
+    ∙ rw l
     (missed s 0 c.skip_white-at.result other (colon ∷ []) c.skip_white-at.ensures (sym c.token_is.ensures ∙ c.if-token_is.false))

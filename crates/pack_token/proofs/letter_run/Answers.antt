@@ -1,19 +1,16 @@
--- `letter_run` counts letters: the count so far and the letters left are all. From the laws of runs of letters.
-use native.Mathlib.Omega.{arith}
-use mathlib.Core.Path.{sym, ◌∙◌}
-use Rattle.decimal.proofs.Runs.{run_more, run_end, run_out}
+-- `letter_run` counts the letters that a text begins with.
+use Rattle.std.proofs.Common.{rules, tests}
+use Rattle.std.proofs.lemmas.Iterator.{YieldsList-from_slice}
+use Rattle.std.proofs.lemmas.Iterator.Consumers.{count_from_yields_List}
+use Rattle.std.proofs.lemmas.Iterator.Search.{YieldsList-from_take_while}
+use Rattle.decimal.proofs.Runs.{counted}
 use Rattle.pack_token.specs.Token.{is_letter}
 use Rattle.pack_token.proofs.letter_run.Goals as goal
 
-pub loop-i-preserved : goal.loop-i-preserved
-loop-i-preserved c =
-    let s = c.args.s.now in
-    omega (arith, run_more is_letter s c.loop-i.i c.loop-i-test.true (sym c.is_letter.ensures ∙ c.if-is_letter.true))
-
-pub returns-else-is_letter : goal.returns-else-is_letter
-returns-else-is_letter c =
-    let s = c.args.s.now in
-    omega (arith, run_end is_letter s c.loop-i.i c.loop-i-test.true (sym c.is_letter.ensures ∙ c.if-is_letter.false))
-
 pub returns : goal.returns
-returns c = omega (arith, run_out is_letter c.args.s.now c.loop-i.i c.loop-i-test.false)
+returns c =
+    let s = c.args.s.now in
+    let h = counted is_letter s _
+    (count_from_yields_List _ _ c.count.ensures.ran
+    (YieldsList-from_take_while _ is_letter (YieldsList-from_slice s cc) c.take_while.ensures.closure c.take_while.ensures.done (λ x b q k. search (rules, tests)))) in
+    h.0

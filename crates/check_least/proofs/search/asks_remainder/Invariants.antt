@@ -1,5 +1,5 @@
 -- `check_least::search::asks_remainder` goes through the levels of remainders. Invariant: none so far is marked.
-use Prim.Native.Nat.{ℕ, ◌-◌, ◌<◌}
+use Prim.Native.Nat.{ℕ, ◌<◌}
 use mathlib.Core.Path.{◌≡◌}
 use mathlib.Core.Bool.{false}
 use lib.ListN.{get_or}
@@ -7,6 +7,3 @@ use Rattle.check_least.proofs.search.asks_remainder.Given as goal
 
 abbrev pub invariant-loop-j : goal.invariant-loop-j
 invariant-loop-j l = (k : ℕ) → k < l.j → get_or l.marks.asked k false ≡ false
-
-abbrev pub decreases-loop-j : goal.decreases-loop-j
-decreases-loop-j l = 7 - l.j

@@ -20,16 +20,16 @@ mark_levels-requires c = let p = c.requires in
       to_le_relation_room = (p.3, p.4, omega (arith, c.size_of.ensures, c.if-size_of-gt-KEPT.false), length-replicate {A = ℕ} 16 0);
     }
 
-pub try_each-requires-then-asked : goal.try_each-requires-then-asked
-try_each-requires-then-asked c = let p = c.requires in (p.1, p.2, p.3, p.4)
+pub try_each-requires-then-marks-offset8 : goal.try_each-requires-then-marks-offset8
+try_each-requires-then-marks-offset8 c = let p = c.requires in (p.1, p.2, p.3, p.4)
 
-pub returns-then-asked : goal.returns-then-asked
-returns-then-asked c = c.try_each-then-asked.ensures
+pub returns-then-marks-offset8 : goal.returns-then-marks-offset8
+returns-then-marks-offset8 c = c.try_each-then-marks-offset8.ensures
 
 pub by_window-requires : goal.by_window-requires
 by_window-requires c = let m = c.mark_levels.ensures in let p = c.requires in
     record {
       fit = (p.0, p.1, p.2, p.3, p.4, omega (arith, c.size_of.ensures, c.if-size_of-gt-KEPT.false), m.told);
-      s_value = m.s_value c.if-asked.false;
+      s_value = m.s_value c.if-marks-offset8.false;
       by_index = m.by_index;
     }

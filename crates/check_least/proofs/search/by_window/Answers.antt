@@ -1,8 +1,7 @@
 -- `check_least::search::by_window`: no number, the window's least one, or that of the table from there on.
 use native.Mathlib.Omega.{arith}
 use mathlib.Core.Path.{sym, ◌∙◌}
-use borrow.Author.Tests.{not-true}
-use Rattle.pack_rules.specs.Stretch.{table, table_of}
+use Rattle.pack_rules.specs.Stretch.{table_of}
 use Rattle.check_laws.specs.Read.{joined_in}
 use Rattle.check_laws.proofs.Searched.{room_le}
 use Rattle.check_least.proofs.Searching.{least_free, window_past, window_hit, window_on}
@@ -15,7 +14,7 @@ pub returns-then-hi-p : goal.returns-then-hi-p
 returns-then-hi-p c = let a = c.args in let T = table_of a.pack.now in let x = joined_in T a.s in let p = c.requires in let w = c.in_window-p.ensures in window_past a.q x p.s_value w p.fit.2 c.if-hi-p.true
 
 pub returns-then-not-asks_remainder : goal.returns-then-not-asks_remainder
-returns-then-not-asks_remainder c = let a = c.args in let T = table_of a.pack.now in let x = joined_in T a.s in let p = c.requires in let w = c.in_window-p.ensures in least_free a.q x p.s_value (λ j h. p.by_index j (omega arith) (c.asks_remainder.ensures (not-true _ c.if-not-asks_remainder.true-raw) j h)) w
+returns-then-not-asks_remainder c = let a = c.args in let T = table_of a.pack.now in let x = joined_in T a.s in let p = c.requires in let w = c.in_window-p.ensures in least_free a.q x p.s_value (λ j h. p.by_index j (omega arith) (c.asks_remainder.ensures c.if-not-asks_remainder.true j h)) w
 
 pub passes_at-requires : goal.passes_at-requires
 passes_at-requires c = let p = c.requires in (room_le c.args.q c.in_window-p.result c.args.hi p.fit.1 c.in_window-p.ensures.high, p.fit.3, p.fit.4)

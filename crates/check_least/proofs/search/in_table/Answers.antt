@@ -1,5 +1,5 @@
 -- `check_least::search::in_table`: the table stands, or no number passes its levels, or each number is tried.
-use Rattle.pack_rules.specs.Stretch.{table, table_of}
+use Rattle.pack_rules.specs.Stretch.{table_of}
 use Rattle.check_laws.specs.Read.{joined_in}
 use Rattle.check_least.proofs.Searching.{least_empty, laid_fresh}
 use Rattle.check_least.proofs.search.in_table.Goals as goal

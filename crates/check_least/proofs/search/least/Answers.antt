@@ -1,7 +1,7 @@
 -- `check_least::search::least`: none before the first number passes; it is the answer where it passes.
 use native.Mathlib.Omega.{arith}
 use mathlib.Core.Path.{sym, ◌∙◌}
-use Rattle.pack_rules.specs.Stretch.{table, table_of}
+use Rattle.pack_rules.specs.Stretch.{table_of}
 use Rattle.check_laws.specs.Fast.{passes_all}
 use Rattle.check_laws.specs.Read.{joined_in}
 use Rattle.check_laws.proofs.Searched.{room_le}

@@ -1,7 +1,7 @@
 -- `check_pairs::first::later_clash` stops at the first that clashes. Invariant: the rules passed do not clash.
 use native.Mathlib.Omega.{arith}
 use mathlib.Core.Path.{refl, ◌∙◌}
-use Rattle.pack_rules.specs.Stretch.{table, table_of}
+use Rattle.pack_rules.specs.Stretch.{table_of}
 use Rattle.check_laws.proofs.Answering.{behind_more, behind_found, behind_none}
 use borrow.Author.Rules.{rules}
 use Rattle.check_pairs.proofs.first.later_clash.Goals as goal
@@ -36,4 +36,4 @@ pub returns : goal.returns
 returns c =
     let a = c.args in
     let T = table_of a.pack.now in
-    (λ rest. c.loop-q.invariant.1 rest ∙ behind_none T a.pack.now.relations a.pack.now.clauses a.p a.n c.loop-q.q c.nowhere-none.result (search rules) rest, λ h. absurd (omega arith), c.nowhere-none.ensures.1)
+    (λ rest. c.loop-q.invariant.1 rest ∙ behind_none T a.pack.now.relations a.pack.now.clauses a.p a.n c.loop-q.q c.nowhere.result (search rules) rest, λ h. absurd (omega arith), c.nowhere.ensures.1)

@@ -1,7 +1,7 @@
 -- `check_pairs::joined::both_spot` takes the earliest. Invariant: the best so far with that of the clauses left is that of all.
 use native.Mathlib.Omega.{arith}
 use Rattle.check_laws.specs.Fast.{fast_rank, both_of}
-use Rattle.pack_rules.specs.Stretch.{table, table_of, clauses_in}
+use Rattle.pack_rules.specs.Stretch.{table_of, clauses_in}
 use Rattle.check_laws.specs.Spots.{spot_rank}
 use Rattle.check_laws.proofs.Pairing.{both_start, both_more, both_end}
 use borrow.Author.Rules.{rules}

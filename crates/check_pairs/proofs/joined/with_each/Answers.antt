@@ -1,7 +1,7 @@
 -- `check_pairs::joined::with_each` takes the earliest. Invariant: the best so far with that of the pairs left is that of all.
 use native.Mathlib.Omega.{arith}
 use mathlib.Core.Path.{refl, sym, ◌∙◌}
-use Rattle.pack_rules.specs.Stretch.{table, table_of}
+use Rattle.pack_rules.specs.Stretch.{table_of}
 use Rattle.check_laws.specs.Spots.{spot_rank}
 use Rattle.check_laws.proofs.Pairing.{each_more, each_end}
 use borrow.Author.Rules.{rules}
@@ -10,8 +10,8 @@ use Rattle.check_pairs.proofs.joined.with_each.Goals as goal
 pub loop-l-init : goal.loop-l-init
 loop-l-init c = (refl, c.requires.k_lt_clause_room.2)
 
-pub joined_spot-one-requires : goal.joined_spot-one-requires
-joined_spot-one-requires c =
+pub joined_spot-requires : goal.joined_spot-requires
+joined_spot-requires c =
     let p = c.requires in
     record {
       k_lt_clause_room = (p.k_lt_clause_room.0, omega (arith, p.k_lt_clause_room.1, c.loop-l-test.true), p.k_lt_clause_room.3);
@@ -19,13 +19,13 @@ joined_spot-one-requires c =
     }
 
 pub earlier-best-requires : goal.earlier-best-requires
-earlier-best-requires c = (c.loop-l.invariant.1, c.joined_spot-one.ensures.1)
+earlier-best-requires c = (c.loop-l.invariant.1, c.joined_spot.ensures.1)
 
 pub loop-l-preserved : goal.loop-l-preserved
 loop-l-preserved c =
     let a = c.args in
     let T = table_of a.pack.now in
-    (sym (each_more T a.pack.now.relations a.k a.to (spot_rank c.loop-l.best) (spot_rank c.joined_spot-one.result) (spot_rank c.earlier-best.result) c.loop-l.l (search rules) c.joined_spot-one.ensures.0 c.earlier-best.ensures.0) ∙ c.loop-l.invariant.0, c.earlier-best.ensures.1)
+    (sym (each_more T a.pack.now.relations a.k a.to (spot_rank c.loop-l.best) (spot_rank c.joined_spot.result) (spot_rank c.earlier-best.result) c.loop-l.l (search rules) c.joined_spot.ensures.0 c.earlier-best.ensures.0) ∙ c.loop-l.invariant.0, c.earlier-best.ensures.1)
 
 pub returns : goal.returns
 returns c =

@@ -1,6 +1,6 @@
 -- `check_places::places::least_room` tries each in turn. Invariant: none before passes.
 use mathlib.Core.Bool.{Bool}
-use Prim.Native.Nat.{ℕ, suc, ◌-◌, ◌^◌, ◌≤◌}
+use Prim.Native.Nat.{ℕ, suc, ◌^◌, ◌≤◌}
 use lib.Dec.{ltb}
 use Rattle.decimal.specs.Choice.{both}
 use Rattle.number.specs.Limits.{max_places}
@@ -13,6 +13,3 @@ Room vs f v = both (marked vs v) (ltb f (10 ^ v))
 
 abbrev pub invariant-loop-v : goal.invariant-loop-v
 invariant-loop-v l = (Before (Room l.vs l.f) max_places 1 l.v) × (l.v ≤ suc max_places)
-
-abbrev pub decreases-loop-v : goal.decreases-loop-v
-decreases-loop-v l = suc max_places - l.v

@@ -11,6 +11,3 @@ use Rattle.check_places.proofs.places.settled_places.Given as goal
 
 abbrev pub invariant-loop-v : goal.invariant-loop-v
 invariant-loop-v l = ((x : List Relation) → Settled x l.vs l.ws → Before (λ (u : ℕ). all (settled_f u (u - l.k)) x) (max_places - l.k) (suc l.k) l.v) × (l.k < l.v) × (l.v ≤ suc max_places)
-
-abbrev pub decreases-loop-v : goal.decreases-loop-v
-decreases-loop-v l = suc max_places - l.v

@@ -1,5 +1,5 @@
 -- `check_places::places::whole_places` tries each in turn. Invariant: none before passes.
-use Prim.Native.Nat.{ℕ, suc, ◌≤◌, ◌-◌}
+use Prim.Native.Nat.{ℕ, suc, ◌≤◌}
 use mathlib.Core.List.{List}
 use Rattle.decimal.specs.Lists.{all}
 use Rattle.number.specs.Limits.{max_places}
@@ -11,6 +11,3 @@ use Rattle.check_places.proofs.places.whole_places.Given as goal
 
 abbrev pub invariant-loop-v : goal.invariant-loop-v
 invariant-loop-v l = ((x : List Relation) → Settled x l.vs l.ws → Before (λ (u : ℕ). all (settled_f u 0) x) (suc max_places) 0 l.v) × (l.v ≤ suc max_places)
-
-abbrev pub decreases-loop-v : goal.decreases-loop-v
-decreases-loop-v l = suc max_places - l.v

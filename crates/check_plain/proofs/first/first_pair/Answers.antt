@@ -1,7 +1,7 @@
 -- `check_plain::first::first_pair` stops at the first rule that one behind it clashes with. Invariant: the answer is that of the rules left.
 use native.Mathlib.Omega.{arith}
 use mathlib.Core.Path.{refl, sym, ◌∙◌}
-use Rattle.pack_rules.specs.Stretch.{table, table_of}
+use Rattle.pack_rules.specs.Stretch.{table_of}
 use Rattle.check_laws.specs.Check.{clash_of}
 use Rattle.check_laws.proofs.Turns.{rules_found, rules_more, rules_end}
 use borrow.Author.Rules.{rules}

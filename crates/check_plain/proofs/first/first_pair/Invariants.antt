@@ -1,7 +1,6 @@
 -- `check_plain::first::first_pair` stops at the first rule that one behind it clashes with. Invariant: the answer is that of the rules left.
-use Prim.Native.Nat.{◌-◌}
 use mathlib.Core.Path.{◌≡◌}
-use Rattle.pack_rules.specs.Stretch.{table, table_of}
+use Rattle.pack_rules.specs.Stretch.{table_of}
 use Rattle.check_laws.specs.Check.{clash_of}
 use Rattle.check_laws.proofs.Turns.{FromRule}
 use Rattle.check_plain.proofs.first.first_pair.Given as goal
@@ -9,5 +8,3 @@ use Rattle.check_plain.proofs.first.first_pair.Given as goal
 abbrev pub invariant-loop-k : goal.invariant-loop-k
 invariant-loop-k l = FromRule clash_of (table_of l.pack) l.pack.relations l.pack.clauses l.n 0 ≡ FromRule clash_of (table_of l.pack) l.pack.relations l.pack.clauses l.n l.k
 
-abbrev pub decreases-loop-k : goal.decreases-loop-k
-decreases-loop-k l = l.n - l.k

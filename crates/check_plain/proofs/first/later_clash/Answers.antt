@@ -1,7 +1,7 @@
 -- `check_plain::first::later_clash` stops at the first that clashes. Invariant: the rules passed do not clash.
 use native.Mathlib.Omega.{arith}
 use mathlib.Core.Path.{refl, ◌∙◌}
-use Rattle.pack_rules.specs.Stretch.{table, table_of}
+use Rattle.pack_rules.specs.Stretch.{table_of}
 use Rattle.check_laws.specs.Check.{clash_of}
 use Rattle.check_laws.proofs.Turns.{behind_more, behind_found, behind_none}
 use borrow.Author.Rules.{rules}
@@ -28,4 +28,4 @@ pub returns : goal.returns
 returns c =
     let a = c.args in
     let T = table_of a.pack.now in
-    (λ rest. c.loop-q.invariant.1 rest ∙ behind_none clash_of T a.pack.now.relations a.pack.now.clauses a.p a.n c.loop-q.q c.nowhere-none.result (search rules) rest, λ h. absurd (omega arith), c.nowhere-none.ensures.1)
+    (λ rest. c.loop-q.invariant.1 rest ∙ behind_none clash_of T a.pack.now.relations a.pack.now.clauses a.p a.n c.loop-q.q c.nowhere.result (search rules) rest, λ h. absurd (omega arith), c.nowhere.ensures.1)

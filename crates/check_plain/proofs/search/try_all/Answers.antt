@@ -1,5 +1,5 @@
 -- `check_plain::search::try_all` tries each e in turn. Invariant: none before passes.
-use Rattle.pack_rules.specs.Stretch.{table, table_of}
+use Rattle.pack_rules.specs.Stretch.{table_of}
 use Rattle.check_plain.proofs.Trying.{exponents_start, exponents_more, exponents_found, exponents_none}
 use borrow.Author.Rules.{rules}
 use Rattle.check_plain.proofs.search.try_all.Goals as goal

@@ -1,6 +1,6 @@
 -- `check_plain::search::try_integers` tries each i in turn. Invariant: none before passes.
 use native.Mathlib.Omega.{arith}
-use Rattle.pack_rules.specs.Stretch.{table, table_of}
+use Rattle.pack_rules.specs.Stretch.{table_of}
 use Rattle.check_plain.specs.Search.{meets_both}
 use Rattle.check_plain.proofs.Trying.{integers_start, integers_more, integers_found, integers_none}
 use borrow.Author.Rules.{rules}

@@ -1,5 +1,5 @@
 -- `check_plain::search::try_places` tries each v in turn. Invariant: none before passes.
-use Rattle.pack_rules.specs.Stretch.{table, table_of}
+use Rattle.pack_rules.specs.Stretch.{table_of}
 use Rattle.check_plain.specs.Search.{meets_both, rank_at}
 use Rattle.check_plain.proofs.Trying.{none_start, places_more, places_found, places_none}
 use borrow.Author.Rules.{rules}

@@ -6,14 +6,14 @@ use Rattle.check_relation.proofs.range.range_run.Goals as goal
 pub loop-k-init : goal.loop-k-init
 loop-k-init c = let a = c.args in sweep_start a.pack.now.low a.pack.now.high a.from a.to a.y c.requires.1
 
-pub returns-then-is_in-clause-alike : goal.returns-then-is_in-clause-alike
-returns-then-is_in-clause-alike c = let a = c.args in let l = c.loop-k in sweep_in a.pack.now.low a.pack.now.high a.from a.to a.y l.next l.k _ c.is_in.result c.loop-k-test.true l.invariant (search rules) c.if-is_in.true (search rules)
+pub returns-then-in_range-clause-alike : goal.returns-then-in_range-clause-alike
+returns-then-in_range-clause-alike c = let a = c.args in let l = c.loop-k in sweep_in a.pack.now.low a.pack.now.high a.from a.to a.y l.next l.k _ c.in_range.result c.loop-k-test.true l.invariant (search rules) c.if-in_range.true (search rules)
 
-pub returns-then-is_in-clause-stop_le_far : goal.returns-then-is_in-clause-stop_le_far
-returns-then-is_in-clause-stop_le_far c = let a = c.args in let l = c.loop-k in c.behind.ensures.1
+pub returns-then-in_range-clause-stop_le_far : goal.returns-then-in_range-clause-stop_le_far
+returns-then-in_range-clause-stop_le_far c = let a = c.args in let l = c.loop-k in c.behind.ensures.1
 
 pub loop-k-preserved : goal.loop-k-preserved
-loop-k-preserved c = let a = c.args in let l = c.loop-k in sweep_more a.pack.now.low a.pack.now.high a.from a.to a.y l.next l.k c.next_with-next.result c.is_in.result c.loop-k-test.true l.invariant (search rules) c.if-is_in.false (search rules)
+loop-k-preserved c = let a = c.args in let l = c.loop-k in sweep_more a.pack.now.low a.pack.now.high a.from a.to a.y l.next l.k c.next_with-next.result c.in_range.result c.loop-k-test.true l.invariant (search rules) c.if-in_range.false (search rules)
 
 pub returns-clause-alike : goal.returns-clause-alike
 returns-clause-alike c = let a = c.args in let l = c.loop-k in sweep_out a.pack.now.low a.pack.now.high a.from a.to a.y l.next l.k c.loop-k-test.false l.invariant

@@ -3,8 +3,8 @@ use Rattle.check_laws.proofs.Searched.{factor_f}
 use Rattle.check_relation.proofs.Levelling.{factor_one}
 use Rattle.check_relation.proofs.relation.asked_factor.Goals as goal
 
-pub returns-then-o-eq102 : goal.returns-then-o-eq102
-returns-then-o-eq102 c = factor_f c.args.q c.args.o c.if-o-eq102.true
+pub returns-then-o-eq-F : goal.returns-then-o-eq-F
+returns-then-o-eq-F c = factor_f c.args.q c.args.o c.if-o-eq-F.true
 
-pub returns : goal.returns
-returns c = factor_one c.args.q c.args.o c.requires.0 c.requires.1 c.if-o-eq102.false
+pub returns-else-o-eq-F : goal.returns-else-o-eq-F
+returns-else-o-eq-F c = factor_one c.args.q c.args.o c.requires.0 c.requires.1 c.if-o-eq-F.false

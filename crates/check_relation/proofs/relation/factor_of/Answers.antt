@@ -3,19 +3,19 @@ use Rattle.check_laws.proofs.Searched.{factor_n, factor_i, factor_f, factor_t, f
 use borrow.Author.Rules.{rules}
 use Rattle.check_relation.proofs.relation.factor_of.Goals as goal
 
-pub returns-then-o-eq110 : goal.returns-then-o-eq110
-returns-then-o-eq110 c = factor_n c.args.q c.args.o (search rules)
+pub returns-in-110 : goal.returns-in-110
+returns-in-110 c = factor_n c.args.q c.args.o c.in-110.is
 
-pub returns-then-o-eq105 : goal.returns-then-o-eq105
-returns-then-o-eq105 c = factor_i c.args.q c.args.o (search rules)
+pub returns-in-105 : goal.returns-in-105
+returns-in-105 c = factor_i c.args.q c.args.o c.in-105.is
 
-pub returns-then-o-eq102 : goal.returns-then-o-eq102
-returns-then-o-eq102 c = factor_f c.args.q c.args.o (search rules)
+pub returns-in-102 : goal.returns-in-102
+returns-in-102 c = factor_f c.args.q c.args.o c.in-102.is
 
-pub returns-then-o-eq116 : goal.returns-then-o-eq116
-returns-then-o-eq116 c = factor_t c.args.q c.args.o (search rules)
+pub returns-in-116 : goal.returns-in-116
+returns-in-116 c = factor_t c.args.q c.args.o c.in-116.is
 
-pub returns : goal.returns
-returns c =
+pub returns-in_default : goal.returns-in_default
+returns-in_default c =
     let a = c.args in
     factor_none a.q a.o (search rules) (search rules) (search rules) (search rules)

@@ -6,5 +6,5 @@ use Rattle.check_relation.proofs.relation.upwards_by.Goals as goal
 pub returns-then-s-eq1 : goal.returns-then-s-eq1
 returns-then-s-eq1 c = up_one c.args.y c.args.s (search rules)
 
-pub returns : goal.returns
-returns c = up_more c.args.y c.args.s (search rules)
+pub returns-else-s-eq1 : goal.returns-else-s-eq1
+returns-else-s-eq1 c = up_more c.args.y c.args.s (search rules)

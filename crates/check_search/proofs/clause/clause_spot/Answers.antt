@@ -1,5 +1,5 @@
 -- `check_search::clause::clause_spot`: no e, or the number at the least e.
-use Rattle.pack_rules.specs.Stretch.{table, table_of}
+use Rattle.pack_rules.specs.Stretch.{table_of}
 use Rattle.check_laws.specs.Read.{joined_in}
 use Rattle.check_laws.specs.Bounded.{bounded}
 use Rattle.check_laws.proofs.Spotting.{clause_none}

@@ -1,6 +1,6 @@
 -- `check_search::clause::integer_of` is a search with the factor 1 for i, and for n where f is 0.
 use mathlib.Core.Path.{◌∙◌}
-use Rattle.pack_rules.specs.Stretch.{table, table_of}
+use Rattle.pack_rules.specs.Stretch.{table_of}
 use Rattle.check_laws.specs.Read.{joined_in}
 use Rattle.check_laws.proofs.Flooring.{below_integer}
 use Rattle.check_laws.proofs.Spotting.{low_le, integer_is}

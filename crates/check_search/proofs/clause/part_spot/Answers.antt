@@ -1,5 +1,5 @@
 -- `check_search::clause::part_spot`: no v or w, no t, no i, no f, or all.
-use Rattle.pack_rules.specs.Stretch.{table, table_of}
+use Rattle.pack_rules.specs.Stretch.{table_of}
 use Rattle.check_laws.specs.Read.{joined_in}
 use Rattle.check_laws.specs.Bounded.{bounded}
 use mathlib.Core.Path.{refl, ◌∙◌}

@@ -1,5 +1,5 @@
 -- `check_search::clause::spot_at`: only where f is not 0, or where it is 0 and that comes first, or the earlier of both.
-use Rattle.pack_rules.specs.Stretch.{table, table_of}
+use Rattle.pack_rules.specs.Stretch.{table_of}
 use Rattle.check_laws.specs.Read.{joined_in}
 use Rattle.check_laws.specs.Bounded.{bounded}
 use mathlib.Core.Path.{refl, ◌∙◌}

@@ -1,6 +1,6 @@
 -- `check_table::find::look` asks the run of p, and where it holds the levels below.
 use native.Mathlib.Omega.{arith}
-use Rattle.pack_rules.specs.Stretch.{table, table_of}
+use Rattle.pack_rules.specs.Stretch.{table_of}
 use Rattle.check_laws.specs.Levels.{below}
 use Rattle.check_laws.specs.Read.{joined_in}
 use Rattle.check_laws.proofs.Searched.{room_le}
@@ -29,7 +29,7 @@ returns-then-run c =
     let p = c.requires in
     let T = table_of a.pack.now in
     record {
-      looked = looked_on c.if-run.true c.clause_run-run.ensures.alike (c.next.ensures.1 (below a.q (joined_in T a.s)) p.tabled) c.lesser.ensures p.fit.2;
+      looked = looked_on c.if-run.true c.clause_run-run.ensures.alike (c.next.ensures.1 (below a.q (joined_in T a.s)) p.tabled) c.min.ensures p.fit.2;
       kept_2 = c.clause_run-run.ensures.kept_2;
     }
 

@@ -9,6 +9,3 @@ use Rattle.decimal.proofs.figure.write_figures.Given as goal
 
 abbrev pub invariant-loop-i : goal.invariant-loop-i
 invariant-loop-i l = (length l.out ≡ length l.initial.out) × (l.i ≤ length l.out) × (figures l.i l.m ++ drop l.i l.out ≡ figures (length l.initial.out) l.n) × (take l.i l.out ≡ figures l.i 0)
-
-abbrev pub decreases-loop-i : goal.decreases-loop-i
-decreases-loop-i l = l.i

@@ -1,18 +1,15 @@
--- `decimal::scan::leading_zeros` counts the zeros that a text begins with. The invariant: those passed and those still to come are all of them.
-use native.Mathlib.Omega.{arith}
-use borrow.Author.Tests.{eq-eqb, ne_eqb}
+-- `decimal::scan::leading_zeros` counts the zeros that a text begins with.
+use Rattle.std.proofs.Common.{rules, tests}
+use Rattle.std.proofs.lemmas.Iterator.{YieldsList-from_slice}
+use Rattle.std.proofs.lemmas.Iterator.Consumers.{count_from_yields_List}
+use Rattle.std.proofs.lemmas.Iterator.Search.{YieldsList-from_take_while}
 use Rattle.decimal.specs.Digits.{is_zero}
-use Rattle.decimal.proofs.Runs.{run_more, run_end, run_out}
+use Rattle.decimal.proofs.Runs.{counted}
 use Rattle.decimal.proofs.scan.leading_zeros.Goals as goal
-
-pub loop-i-preserved : goal.loop-i-preserved
-loop-i-preserved c =
-    omega (arith, run_more is_zero c.args.s.now c.loop-i.i c.loop-i-test.true (eq-eqb _ 48 c.if-s-i-eq48.true))
-
-pub returns-else-s-i-eq48 : goal.returns-else-s-i-eq48
-returns-else-s-i-eq48 c =
-    omega (arith, run_end is_zero c.args.s.now c.loop-i.i c.loop-i-test.true (ne_eqb _ 48 c.if-s-i-eq48.false))
 
 pub returns : goal.returns
 returns c =
-    omega (arith, run_out is_zero c.args.s.now c.loop-i.i c.loop-i-test.false)
+    let s = c.args.s.now in
+    counted is_zero s _
+    (count_from_yields_List _ _ c.count.ensures.ran
+    (YieldsList-from_take_while _ is_zero (YieldsList-from_slice s cc) c.take_while.ensures.closure c.take_while.ensures.done (λ x b q k. search (rules, tests))))

@@ -1,29 +1,24 @@
--- `decimal::scan::trimmed_len` counts the digits left without trailing zeros. The invariant: what was passed from the end are zeros.
-use mathlib.Core.Path.{sym, ap, ◌∙◌}
-use Prim.Native.Nat.{◌-◌}
-use lib.ListN.{length}
-use lib.Seq.{take-length, length-take-le}
+-- `decimal::scan::trimmed_len` counts the digits left without trailing zeros.
+use mathlib.Core.List.{reverse}
 use native.Mathlib.Omega.{arith}
-use Rattle.decimal.specs.Digits.{trim}
-use Rattle.decimal.proofs.Zeros.{trim_less, trim_keep, trim_none}
+use Rattle.std.proofs.Common.{rules, tests}
+use Rattle.std.proofs.lemmas.List.{length-reverse}
+use Rattle.std.proofs.lemmas.Iterator.Adapters.{YieldsList-from_rev_slice}
+use Rattle.std.proofs.lemmas.Iterator.Consumers.{count_from_yields_List}
+use Rattle.std.proofs.lemmas.Iterator.Search.{YieldsList-from_take_while}
+use Rattle.decimal.specs.Digits.{is_zero}
+use Rattle.decimal.proofs.Runs.{counted}
+use Rattle.decimal.proofs.Zeros.{trimmed}
 use Rattle.decimal.proofs.scan.trimmed_len.Goals as goal
 
-pub loop-n-init : goal.loop-n-init
-loop-n-init c = (omega arith, ap trim (take-length c.args.s.now))
-
-pub loop-n-preserved : goal.loop-n-preserved
-loop-n-preserved c =
+pub overflow_sub-result : goal.overflow_sub-result
+overflow_sub-result c =
     let s = c.args.s.now in
-    (omega arith, sym (trim_less s c.loop-n.n (c.loop-n.n - 1) (omega arith) (omega arith) c.if-s-last-eq48.true) ∙ c.loop-n.invariant.1)
-
-pub returns-else-s-last-eq48 : goal.returns-else-s-last-eq48
-returns-else-s-last-eq48 c =
-    let s = c.args.s.now in
-    let e = sym c.loop-n.invariant.1 ∙ trim_keep s c.loop-n.n (c.loop-n.n - 1) (omega arith) (omega arith) c.if-s-last-eq48.false in
-    (sym (ap length e ∙ length-take-le c.loop-n.n s c.loop-n.invariant.0), c.loop-n.invariant.0)
+    let k = counted is_zero (reverse s) _ (count_from_yields_List _ _ c.count.ensures.ran (YieldsList-from_take_while _ is_zero (YieldsList-from_rev_slice s cc) c.take_while.ensures.closure c.take_while.ensures.done (λ x b q k. search (rules, tests)))) in
+    omega (arith, length-reverse s)
 
 pub returns : goal.returns
 returns c =
     let s = c.args.s.now in
-    let e = sym c.loop-n.invariant.1 ∙ trim_none s c.loop-n.n (omega arith) in
-    (sym (ap length e ∙ length-take-le c.loop-n.n s c.loop-n.invariant.0), c.loop-n.invariant.0)
+    let k = counted is_zero (reverse s) _ (count_from_yields_List _ _ c.count.ensures.ran (YieldsList-from_take_while _ is_zero (YieldsList-from_rev_slice s cc) c.take_while.ensures.closure c.take_while.ensures.done (λ x b q k. search (rules, tests)))) in
+    (omega (arith, trimmed s), omega arith)

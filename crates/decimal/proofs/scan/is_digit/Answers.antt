@@ -1,9 +1,0 @@
--- `decimal::scan::is_digit` answers its definition, test by test.
-use borrow.Author.Tests.{lt-ltb, le-ltb}
-use Rattle.decimal.proofs.scan.is_digit.Goals as goal
-
-pub returns-then-b-lt48 : goal.returns-then-b-lt48
-returns-then-b-lt48 c = simp (lt-ltb _ _ c.if-b-lt48.true)
-
-pub returns : goal.returns
-returns c = simp (le-ltb _ _ c.if-b-lt48.false)

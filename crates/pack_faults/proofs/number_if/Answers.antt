@@ -1,8 +1,0 @@
--- `number_if` goes by the test of `same_text`.
-use Rattle.pack_faults.proofs.number_if.Goals as goal
-
-pub returns-then-same_text : goal.returns-then-same_text
-returns-then-same_text c = simp (← c.same_text.ensures, c.if-same_text.true)
-
-pub returns : goal.returns
-returns c = simp (← c.same_text.ensures, c.if-same_text.false)
