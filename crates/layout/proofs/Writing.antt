@@ -1,6 +1,5 @@
--- Laws of a text that is written piece by piece: affixes item by item, digits with group symbols among them.
-use mathlib.Core.Path.{◌≡◌, refl, ap}
-use mathlib.Core.Bool.{Bool}
+-- Laws of a text that is written piece by piece: digits with group symbols among them.
+use mathlib.Core.Path.{◌≡◌, refl}
 use mathlib.Core.List.{List, [], ◌++◌, append_assoc}
 use Prim.Native.Nat.{ℕ, suc, ◌+◌, ◌-◌, ◌≤◌, ◌<◌}
 use native.Mathlib.Omega.{arith}
@@ -12,31 +11,15 @@ use lib.Seq.{drop-cons}
 use Rattle.std.specs.Prelude.{if◌then◌else◌}
 use Rattle.decimal.proofs.Choices.{tested}
 use Rattle.area.specs.Area.{Wrote, most}
-use Rattle.area.proofs.Pieces.{Left, again}
-use Rattle.pattern_token.specs.declared.Token.{Token}
-use Rattle.pattern_token.specs.Items.{token_at, items_from, quoted_after, is_number}
-use Rattle.pattern_token.proofs.ItemLaws.{items_step}
 use Rattle.symbols.specs.declared.Symbol.{Symbol}
 use Rattle.symbols.specs.declared.Symbol.TheVariants.{Decimal, Group}
 use Rattle.pattern_reader.specs.declared.Pattern.{Pattern}
 use Rattle.layout.specs.Layout.{whole_digits, fraction_digits, zero_digit, spell, mark, group_size, grouped, body}
-use Rattle.layout.specs.Text.{render, rendered, minimum_in, number_text}
+use Rattle.layout.specs.Text.{minimum_in, number_text}
 
 -- nothing is written
 pub nothing : (o : List ℕ) (a : ℕ) → a ≤ most → Wrote o a [] o a
 nothing o a h = record { area = refl; next = omega arith }
-
--- ---- affixes
-
-module _ (symbol : Symbol → List ℕ) (s : List ℕ) (i : ℕ) (q n : Bool) (h : i < length s) (t : Token) (e : t ≡ token_at q n (drop i s))
-    {o o' w : List ℕ} {a a' : ℕ} (room : length o ≤ most) (l : Left o a w o' a' (rendered symbol (items_from q n 0 (drop i s)))) where
-  affix_split : rendered symbol (items_from q n 0 (drop i s))
-      ≡ render symbol t.item ++ rendered symbol (items_from (quoted_after q t.item) (is_number t.item) 0 (drop (i + t.width) s))
-  affix_split = ap (rendered symbol) (items_step s i q n h t e)
-
-  pub affix_write : {q' n' : Bool} {o'' : List ℕ} {a'' : ℕ} → q' ≡ quoted_after q t.item → n' ≡ is_number t.item
-      → Wrote o' a' (render symbol t.item) o'' a'' → Left o a w o'' a'' (rendered symbol (items_from q' n' 0 (drop (i + t.width) s)))
-  affix_write eq en x = rw (eq, en) (again room l affix_split x)
 
 -- ---- groups
 
