@@ -4,9 +4,9 @@ use Rattle.answer.specs.declared.Keyword.{Keyword}
 use mathlib.Core.Path.{◌≡◌, sym, ap, subst, ◌∙◌}
 use mathlib.Core.Bool.{true, false}
 use mathlib.Core.List.{List, [], ◌∷◌, ◌++◌}
-use Prim.Native.Nat.{ℕ, ◌+◌, ◌≤◌, ◌<◌}
+use Prim.Native.Nat.{ℕ, ◌+◌, ◌<◌}
 use native.Mathlib.Numerals.{add-one}
-use lib.ListN.{length, get_or, take, drop, drop_of_length-le}
+use lib.ListN.{length, get_or, take, drop}
 use lib.Dec.{ltb}
 use lib.Seq.{drop-cons, drop-drop, take_at}
 use Rattle.decimal.specs.Digits.{numeral}
@@ -23,12 +23,9 @@ use Rattle.decimal.proofs.Choices.{tested, never}
 use Rattle.select_text.specs.Select.{select_of}
 use Rattle.check_text.specs.Check.{check_pack}
 
--- the numbers that are left: one and the rest, or none
+-- the numbers that are left: one and the rest
 pub spaced_at : (vs : List ℕ) (k n : ℕ) → (k < length vs) × (n ≡ get_or vs k n) → spaced (drop k vs) ≡ (32 ∷ numeral n) ++ spaced (drop (k + 1) vs)
 spaced_at vs k n h = rw (drop-cons vs k n h.0, add-one k, ← h.1)
-
-pub spaced_end : (vs : List ℕ) (k : ℕ) → length vs ≤ k → spaced (drop k vs) ≡ []
-spaced_end vs k h = rw (drop_of_length-le vs {i = k} h)
 
 -- the answer to a line whose job is told by the lengths of its fields
 pub answer_of_law : (line : List ℕ) (r c : JobCut) (written : List ℕ) → job_at (drop 2 line) r ≡ job_of line → r ≡ c → written ≡ job_text (job_at (drop 2 line) c) → written ≡ job_answer line

@@ -1,45 +1,25 @@
--- Laws of a text that is written piece by piece: affixes item by item, digits with group symbols among them.
-use mathlib.Core.Path.{◌≡◌, refl, ap}
-use mathlib.Core.Bool.{Bool}
+-- Laws of a text that is written piece by piece: digits with group symbols among them.
+use mathlib.Core.Path.{◌≡◌, refl}
 use mathlib.Core.List.{List, [], ◌++◌, append_assoc}
-use Prim.Native.Nat.{ℕ, suc, ◌+◌, ◌-◌, ◌%◌, ◌≤◌, ◌<◌, min, max}
+use Prim.Native.Nat.{ℕ, suc, ◌+◌, ◌-◌, ◌≤◌, ◌<◌}
 use native.Mathlib.Omega.{arith}
 use native.Mathlib.Numerals.{add-one}
-use native.Mathlib.Nat.{mod-zero}
 use borrow.Author.Tests.{lt-ltb, le-ltb}
-use lib.Dec.{eqb, ltb}
-use lib.ListN.{length, get_or, take, drop, drop_of_length-le, length-drop}
+use lib.Dec.{ltb}
+use lib.ListN.{length, get_or, drop, length-drop}
 use lib.Seq.{drop-cons}
 use Rattle.std.specs.Prelude.{if◌then◌else◌}
-use Rattle.decimal.specs.Digits.{lead, trim}
 use Rattle.decimal.proofs.Choices.{tested}
 use Rattle.area.specs.Area.{Wrote, most}
-use Rattle.area.proofs.Pieces.{Left, again}
-use Rattle.pattern_token.specs.declared.Token.{Token}
-use Rattle.pattern_token.specs.Items.{token_at, items_from, items, quoted_after, is_number}
-use Rattle.pattern_token.proofs.ItemLaws.{items_step}
 use Rattle.symbols.specs.declared.Symbol.{Symbol}
 use Rattle.symbols.specs.declared.Symbol.TheVariants.{Decimal, Group}
-use Rattle.pattern_reader.specs.declared.Span.{Span}
 use Rattle.pattern_reader.specs.declared.Pattern.{Pattern}
 use Rattle.layout.specs.Layout.{whole_digits, fraction_digits, zero_digit, spell, mark, group_size, grouped, body}
-use Rattle.layout.specs.Text.{render, rendered, affix_text, minimum_in, number_text}
+use Rattle.layout.specs.Text.{minimum_in, number_text}
 
 -- nothing is written
 pub nothing : (o : List ℕ) (a : ℕ) → a ≤ most → Wrote o a [] o a
 nothing o a h = record { area = refl; next = omega arith }
-
--- ---- affixes
-
-module _ (symbol : Symbol → List ℕ) (s : List ℕ) (i : ℕ) (q n : Bool) (h : i < length s) (t : Token) (e : t ≡ token_at q n (drop i s))
-    {o o' w : List ℕ} {a a' : ℕ} (room : length o ≤ most) (l : Left o a w o' a' (rendered symbol (items_from q n 0 (drop i s)))) where
-  affix_split : rendered symbol (items_from q n 0 (drop i s))
-      ≡ render symbol t.item ++ rendered symbol (items_from (quoted_after q t.item) (is_number t.item) 0 (drop (i + t.width) s))
-  affix_split = ap (rendered symbol) (items_step s i q n h t e)
-
-  pub affix_write : {q' n' : Bool} {o'' : List ℕ} {a'' : ℕ} → q' ≡ quoted_after q t.item → n' ≡ is_number t.item
-      → Wrote o' a' (render symbol t.item) o'' a'' → Left o a w o'' a'' (rendered symbol (items_from q' n' 0 (drop (i + t.width) s)))
-  affix_write eq en x = rw (eq, en) (again room l affix_split x)
 
 -- ---- groups
 
@@ -50,9 +30,6 @@ place nought g p q d i = spell nought (get_or d i 0) ++ (if mark p q (length d -
 pub grouped_step : (nought : ℕ) (g : List ℕ) (p q : ℕ) (d : List ℕ) (i : ℕ) → i < length d
     → grouped nought g p q (drop i d) ≡ place nought g p q d i ++ grouped nought g p q (drop (i + 1) d)
 grouped_step nought g p q d i h = rw (drop-cons d i 0 h, length-drop (suc i) d, add-one, append_assoc)
-
-pub grouped_end : (nought : ℕ) (g : List ℕ) (p q : ℕ) (d : List ℕ) (i : ℕ) → length d ≤ i → grouped nought g p q (drop i d) ≡ []
-grouped_end nought g p q d i h = rw (drop_of_length-le d h)
 
 -- ---- the primary size
 

@@ -92,18 +92,9 @@ fn append_affix(out: &mut [u8], at: usize, house: &[u8], s: &[u8]) -> usize
 fn append_items(out: &mut [u8], at: usize, house: &[u8], s: &[u8]) -> usize
     ensures { Wrote out.old at (rendered (symbol_in house.now standard_record) (items s.now)) out.new result }
 {
-    let mut quoted = false;
-    let mut number = false;
     let mut k = at;
-    let mut i = 0;
-    // By index: the step is the token's width.
-    while i < s.len() {
-        let t = pattern_token::token_in(s, i, quoted, number);
-        let item = t.item;
+    for item in pattern_token::items_of(s) {
         k = append_item(out, k, house, item);
-        quoted = pattern_token::quoted_after(quoted, item);
-        number = pattern_token::is_number(item);
-        i += t.width;
     }
     k
 }

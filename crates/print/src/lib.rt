@@ -19,7 +19,13 @@ use number::Number;
 use pattern_reader::Pattern;
 
 // The number is read: 50, and then its digits.
-fn print_number(house: &[u8], pattern: &[u8], p: Pattern, n: Number, out: &mut [u8]) -> Result<usize, Refusal>
+fn print_number(
+    house: &[u8],
+    pattern: &[u8],
+    p: Pattern,
+    n: Number,
+    out: &mut [u8],
+) -> Result<usize, Refusal>
     requires f_value { within p.step p.factor p.most n.i n.v.0 n.f.0 ≡ true }
     requires n_len_bound { length (text_of (symbol_in house.now standard_record) pattern.now p n) ≤ most }
     ensures value { result ≡ answer_of (of_number house.now pattern.now p n) out.old }
@@ -36,7 +42,12 @@ fn print_number(house: &[u8], pattern: &[u8], p: Pattern, n: Number, out: &mut [
 // Prints the number through the pattern with the symbols of the record, and the standard symbols where
 // it lacks one. A refusal leaves the area as it was; a success writes its text at the front and no
 // byte beyond, and answers its length.
-pub fn print(symbols: &[u8], pattern: &[u8], number: &[u8], out: &mut [u8]) -> Result<usize, Refusal>
+pub fn print(
+    symbols: &[u8],
+    pattern: &[u8],
+    number: &[u8],
+    out: &mut [u8],
+) -> Result<usize, Refusal>
     ensures value { result ≡ answer_of (outcome symbols.now pattern.now number.now) out.old }
     ensures out_after { out.new ≡ area_of (outcome symbols.now pattern.now number.now) out.old }
 {

@@ -35,12 +35,12 @@ use Rattle.print_grammar.proofs.Groups.{grouped_few, primary_plain}
 
 -- ---- a minimum of 1 is the base's rule
 
-size_one : (zero : ℕ) (g : List ℕ) (p q : ℕ) (d : List ℕ) → grouped zero g (group_size 1 p (length d)) q d ≡ grouped zero g p q d
-size_one zero g p q d =
+size_one : (nought : ℕ) (g : List ℕ) (p q : ℕ) (d : List ℕ) → grouped nought g (group_size 1 p (length d)) q d ≡ grouped nought g p q d
+size_one nought g p q d =
     tested (ltb (length d) (p + 1))
     (λ k.
     let h = ltb-true (length d) (p + 1) k in
-    grouped_few zero g 1 p q d h ∙ sym (primary_plain zero g p q d (omega (arith, h))))
+    grouped_few nought g 1 p q d h ∙ sym (primary_plain nought g p q d (omega (arith, h))))
     (λ k. rw k)
 
 number_one : (symbol : Symbol → List ℕ) (p : Pattern) (d : List ℕ) → minimum_in symbol ≡ 1 → number_text symbol p d ≡ number_with symbol (λ (digits : ℕ). p.primary) p d

@@ -64,38 +64,38 @@ none_stands m p q n hm hp = (few, λ h left l s. omega (arith, s.enough))
 -- ---- the text of the digits
 
 -- with no comma there are no groups
-pub grouped_none : (zero : ℕ) (g : List ℕ) (q : ℕ) (d : List ℕ) → grouped zero g 0 q d ≡ spelled zero d
-grouped_none zero g q [] = refl
-grouped_none zero g q (b ∷ d) = ap (λ (l : List ℕ). spell zero b ++ l) (grouped_none zero g q d)
+pub grouped_none : (nought : ℕ) (g : List ℕ) (q : ℕ) (d : List ℕ) → grouped nought g 0 q d ≡ spelled nought d
+grouped_none nought g q [] = refl
+grouped_none nought g q (b ∷ d) = ap (λ (l : List ℕ). spell nought b ++ l) (grouped_none nought g q d)
 
 -- nor where the digits are too few: they stand as they are
-pub grouped_few : (zero : ℕ) (g : List ℕ) (m p q : ℕ) (d : List ℕ) → length d < p + m → grouped zero g (group_size m p (length d)) q d ≡ spelled zero d
-grouped_few zero g m p q d h = rw (lt-ltb (length d) (p + m) h) (grouped_none zero g q d)
+pub grouped_few : (nought : ℕ) (g : List ℕ) (m p q : ℕ) (d : List ℕ) → length d < p + m → grouped nought g (group_size m p (length d)) q d ≡ spelled nought d
+grouped_few nought g m p q d h = rw (lt-ltb (length d) (p + m) h) (grouped_none nought g q d)
 
 -- no symbol among the primary group's own digits
 mark_few : (p q r : ℕ) → r < p → mark p q r ≡ false
 mark_few p q r h = tested (eqb p 0) (λ a. rw a) (λ a. rw (a, lt-ltb r p h))
 
-pub primary_plain : (zero : ℕ) (g : List ℕ) (p q : ℕ) (d : List ℕ) → length d ≤ p → grouped zero g p q d ≡ spelled zero d
-primary_plain zero g p q [] h = refl
-primary_plain zero g p q (b ∷ d) h = rw (mark_few p q (length d) h) (ap (λ (l : List ℕ). spell zero b ++ l) (primary_plain zero g p q d (omega arith)))
+pub primary_plain : (nought : ℕ) (g : List ℕ) (p q : ℕ) (d : List ℕ) → length d ≤ p → grouped nought g p q d ≡ spelled nought d
+primary_plain nought g p q [] h = refl
+primary_plain nought g p q (b ∷ d) h = rw (mark_few p q (length d) h) (ap (λ (l : List ℕ). spell nought b ++ l) (primary_plain nought g p q d (omega arith)))
 
 -- Where the digits are enough, the text ends in a symbol and the primary group's digits.
 pub record Ends (text last : List ℕ) : Type 0 where
   pub front : List ℕ
   pub is_text : text ≡ front ++ last
 
-ends_in : (zero : ℕ) (g : List ℕ) (p q : ℕ) (x : List ℕ) (b : ℕ) (d : List ℕ) → 0 < p → 0 < q → length d ≡ p
-    → Ends (grouped zero g p q (x ++ (b ∷ d))) (g ++ spelled zero d)
-ends_in zero g p q [] b d hp hq e =
+ends_in : (nought : ℕ) (g : List ℕ) (p q : ℕ) (x : List ℕ) (b : ℕ) (d : List ℕ) → 0 < p → 0 < q → length d ≡ p
+    → Ends (grouped nought g p q (x ++ (b ∷ d))) (g ++ spelled nought d)
+ends_in nought g p q [] b d hp hq e =
     let m : mark p q (length d) ≡ true = ends_complete p q (length d) hq (record { some = hp; groups = 0; to_come = omega arith }) in
-    record { front = spell zero b; is_text = rw m (ap (λ (l : List ℕ). spell zero b ++ (g ++ l)) (primary_plain zero g p q d (omega arith))) }
-ends_in zero g p q (a ∷ x) b d hp hq e =
-    let r = ends_in zero g p q x b d hp hq e in
+    record { front = spell nought b; is_text = rw m (ap (λ (l : List ℕ). spell nought b ++ (g ++ l)) (primary_plain nought g p q d (omega arith))) }
+ends_in nought g p q (a ∷ x) b d hp hq e =
+    let r = ends_in nought g p q x b d hp hq e in
     tested (mark p q (length (x ++ (b ∷ d))))
-    (λ k. record { front = spell zero a ++ (g ++ r.front); is_text = rw k (ap (λ (l : List ℕ). spell zero a ++ (g ++ l)) r.is_text ∙ (simp append_assoc)) })
-    (λ k. record { front = spell zero a ++ r.front; is_text = rw k (ap (λ (l : List ℕ). spell zero a ++ l) r.is_text ∙ (simp append_assoc)) })
+    (λ k. record { front = spell nought a ++ (g ++ r.front); is_text = rw k (ap (λ (l : List ℕ). spell nought a ++ (g ++ l)) r.is_text ∙ (simp append_assoc)) })
+    (λ k. record { front = spell nought a ++ r.front; is_text = rw k (ap (λ (l : List ℕ). spell nought a ++ l) r.is_text ∙ (simp append_assoc)) })
 
-pub grouped_last : (zero : ℕ) (g : List ℕ) (m p q : ℕ) (x : List ℕ) (b : ℕ) (d : List ℕ) → 0 < p → 0 < q → length d ≡ p
-    → p + m ≤ length (x ++ (b ∷ d)) → Ends (grouped zero g (group_size m p (length (x ++ (b ∷ d)))) q (x ++ (b ∷ d))) (g ++ spelled zero d)
-grouped_last zero g m p q x b d hp hq e h = rw (le-ltb (length (x ++ (b ∷ d))) (p + m) h) (ends_in zero g p q x b d hp hq e)
+pub grouped_last : (nought : ℕ) (g : List ℕ) (m p q : ℕ) (x : List ℕ) (b : ℕ) (d : List ℕ) → 0 < p → 0 < q → length d ≡ p
+    → p + m ≤ length (x ++ (b ∷ d)) → Ends (grouped nought g (group_size m p (length (x ++ (b ∷ d)))) q (x ++ (b ∷ d))) (g ++ spelled nought d)
+grouped_last nought g m p q x b d hp hq e h = rw (le-ltb (length (x ++ (b ∷ d))) (p + m) h) (ends_in nought g p q x b d hp hq e)

@@ -39,29 +39,29 @@ use Rattle.print_grammar.proofs.Affixes.{affix_text_law}
 
 -- ---- groups
 
-module _ (zero : ℕ) (group : List ℕ) (m p q n : ℕ) (some : 0 < p → 0 < q) where
+module _ (nought : ℕ) (group : List ℕ) (m p q n : ℕ) (some : 0 < p → 0 < q) where
   abbrev Stands : ℕ → Type 0
   Stands left = SymbolStands m p q n left
 
   abbrev size : ℕ
   size = group_size m p n
 
-  groups_are : {d t : List ℕ} → Grouped zero group Stands d t → t ≡ grouped zero group size q d
+  groups_are : {d t : List ℕ} → Grouped nought group Stands d t → t ≡ grouped nought group size q d
   groups_are none = refl
   groups_are (plain {d} {ds} {t} f g) =
       tested (mark size q (length ds)) (λ k. absurd (f (mark_sound m p q n (length ds) k)))
-      (λ k. rw k (ap (λ (l : List ℕ). spell zero d ++ l) (groups_are g)))
+      (λ k. rw k (ap (λ (l : List ℕ). spell nought d ++ l) (groups_are g)))
   groups_are (ended {d} {ds} {t} e g) =
-      rw (mark_complete m p q n (length ds) (some e.ends.some) e) (ap (λ (l : List ℕ). spell zero d ++ (group ++ l)) (groups_are g))
+      rw (mark_complete m p q n (length ds) (some e.ends.some) e) (ap (λ (l : List ℕ). spell nought d ++ (group ++ l)) (groups_are g))
 
-  groups_made : (d : List ℕ) → Grouped zero group Stands d (grouped zero group size q d)
+  groups_made : (d : List ℕ) → Grouped nought group Stands d (grouped nought group size q d)
   groups_made [] = none
   groups_made (b ∷ d) =
       tested (mark size q (length d)) (λ k. rw k (ended (mark_sound m p q n (length d) k) (groups_made d)))
       (λ k. rw k (plain (λ e. not_both (mark_complete m p q n (length d) (some e.ends.some) e) k) (groups_made d)))
 
-  pub grouped_text : (d t : List ℕ) → Grouped zero group Stands d t ↔ (t ≡ grouped zero group size q d)
-  grouped_text d t = (groups_are, λ e. subst (Grouped zero group Stands d) (sym e) (groups_made d))
+  pub grouped_text : (d t : List ℕ) → Grouped nought group Stands d t ↔ (t ≡ grouped nought group size q d)
+  grouped_text d t = (groups_are, λ e. subst (Grouped nought group Stands d) (sym e) (groups_made d))
 
 -- ---- what stands around the digits
 
@@ -102,9 +102,9 @@ module _ (symbol : Symbol → List ℕ) (s : List ℕ) where
 -- ---- the text
 
 -- its parts, in the order of the relation
-laid_out : (zero : ℕ) (sign prefix integer point fraction suffix : List ℕ)
-    → sign ++ (prefix ++ ((integer ++ (point ++ grouped zero [] 0 0 fraction)) ++ suffix)) ≡ sign ++ (prefix ++ (integer ++ (point ++ (spelled zero fraction ++ suffix))))
-laid_out zero sign prefix integer point fraction suffix = rw (grouped_none zero [] 0 fraction) (simp append_assoc)
+laid_out : (nought : ℕ) (sign prefix integer point fraction suffix : List ℕ)
+    → sign ++ (prefix ++ ((integer ++ (point ++ grouped nought [] 0 0 fraction)) ++ suffix)) ≡ sign ++ (prefix ++ (integer ++ (point ++ (spelled nought fraction ++ suffix))))
+laid_out nought sign prefix integer point fraction suffix = rw (grouped_none nought [] 0 fraction) (simp append_assoc)
 
 -- the printed value, in units of the last fraction place
 abbrev units_in : Pattern → Number → ℕ

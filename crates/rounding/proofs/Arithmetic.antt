@@ -12,11 +12,11 @@ use lib.Dec.{ltb, leb, eqb}
 use borrow.Author.Tests.{eqb-true, le-ltb, ltb-false, leb-true, le-leb}
 use Rattle.decimal.proofs.Choices.{tested, choice, not_both}
 use lib.ListN.{length, get_or, take, drop, set, length-set}
-use lib.Seq.{drop-cons, take-suc, take-suc-set, take-length, take-set-le, take_all, drop-set-lt}
+use lib.Seq.{drop-cons, take-suc, take-suc-set, take-length, take-set-le, drop-set-lt}
 use Rattle.decimal.specs.Digits.{is_digit, AllDigits, value, figures, lead, is_zero}
 use Rattle.decimal.proofs.Runs.{digit_bounds, of_head, run_le}
 use Rattle.decimal.proofs.Values.{value_snoc, value_more, value_lt, power_mono, power_pos}
-use Rattle.decimal.proofs.Figured.{length_figures, digits_figures, value_figures, figures_of, figures_start, figures_again}
+use Rattle.decimal.proofs.Figured.{length_figures, digits_figures, value_figures, figures_of, figures_again}
 use Rattle.nearest.specs.Nearest.{up, steps_of, exact, units_of}
 use Rattle.rounding.specs.Limits.{width, max_integer, max_places, max_fraction, max_factor, max_step, within}
 
@@ -27,15 +27,6 @@ pub record Scaling (m c : ℕ) (d₀ d : List ℕ) (over i : ℕ) : Type 0 where
   pub at : i ≤ length d
   pub low : over ≤ 100000000000000000
   pub digits : figures i (value (take i d) * m + over) ++ drop i d ≡ figures (length d₀) (value d₀ * m + c)
-
-pub scale_start : (m c : ℕ) (d : List ℕ) → c ≤ 100000000000000000 → Scaling m c d d c (length d)
-scale_start m c d h =
-    record {
-      size = refl;
-      at = omega arith;
-      low = h;
-      digits = rw (take-length d) (figures_start (value d * m + c) d);
-    }
 
 pub scale_again : (m c : ℕ) (d₀ d : List ℕ) (over i j x : ℕ) → m ≤ 1000000000000000 → Scaling m c d₀ d over i → i ≡ suc j → x ≡ get_or d j 0 - 48 → x ≤ 207
     → Scaling m c d₀ (set d j (48 + (x * m + over) % 10)) ((x * m + over) / 10) j
@@ -55,9 +46,6 @@ scale_again m c d₀ d over i j x hm s e ex hx =
       digits = rw (take-set-le j d j y (omega arith))
           (rw (q, r) at (figures_again (10 * (v * m) + n) i j d e h) ∙ rw t at s.digits);
     }
-
-pub scale_done : (m c : ℕ) (d₀ d : List ℕ) (over i : ℕ) → Scaling m c d₀ d over i → i ≡ 0 → d ≡ figures (length d₀) (value d₀ * m + c)
-scale_done m c d₀ d over i s e = rw e at s.digits
 
 -- ---- a division, from the first digit on
 
@@ -144,14 +132,6 @@ module _ (step : ℕ) (d₀ d : List ℕ) (r i : ℕ) (s : Dividing step d₀ d 
         left = rw (add-one, drop-set-lt (suc i) d i y (omega arith)) same_rest;
         rest = sym rem;
       }
-
-pub divide_done : (step : ℕ) (d₀ d : List ℕ) (r i : ℕ) → Dividing step d₀ d r i → length d ≤ i
-    → (r ≡ value d₀ % step) × (d ≡ figures (length d₀) (value d₀ / step))
-divide_done step d₀ d r i s h =
-    let e : i ≡ length d₀ = omega (arith, s.at, s.size) in
-    let t : take i d₀ ≡ d₀ = take_all i d₀ (omega arith) in
-    let f : take i d ≡ figures i (value d₀ / step) = rw t at s.front in
-    (rw t at s.rest, sym (take_all i d h) ∙ f ∙ ap (λ (k : ℕ). figures k (value d₀ / step)) e)
 
 -- ---- the last digit
 

@@ -47,6 +47,7 @@ fn scale(d: &mut [u8], m: u64, c: u64)
     ensures { d.new ≡ figures (length d.old) (value d.old * m + c) }
 {
     let mut over = c;
+    // By index: what is written through a reversed iter_mut is not known afterwards.
     for i in (0..d.len()).rev() {
         let n = digit_value(d[i]) * m + over;
         d[i] = b'0' + (n % 10) as u8;
@@ -60,6 +61,7 @@ fn divide(d: &mut [u8], step: u64) -> u64
     ensures { (result ≡ value d.old % step) × (d.new ≡ figures (length d.old) (value d.old / step)) }
 {
     let mut r = 0;
+    // By index: a leading zero stays, and costs no division.
     for i in leading_zeros(d)..d.len() {
         let n = 10 * r + digit_value(d[i]);
         d[i] = b'0' + (n / step) as u8;

@@ -1,31 +1,13 @@
 -- `layout::append_items` writes item by item. The invariant: what is left to write, written from the place reached on, gives what the whole gives.
+use mathlib.Core.Path.{ap}
 use native.Mathlib.Omega.{arith}
-use Rattle.area.proofs.Pieces.{start}
+use Rattle.area.proofs.Pieces.{again}
 use Rattle.symbols.specs.Entries.{symbol_in, standard_record}
-use Rattle.layout.proofs.Writing.{affix_write}
+use Rattle.layout.specs.Text.{rendered}
 use Rattle.layout.proofs.append_items.Goals as goal
 
-pub loop-i-init : goal.loop-i-init
-loop-i-init c = (omega arith, omega arith, omega arith, start _ _ _)
-
-pub overflow_add-i : goal.overflow_add-i
-overflow_add-i c = omega (arith, c.token_in-t.ensures.le_width c.loop-i-test.true)
-
-pub loop-i-smaller : goal.loop-i-smaller
-loop-i-smaller c = omega (arith, c.token_in-t.ensures.le_width c.loop-i-test.true)
-
-pub loop-i-preserved : goal.loop-i-preserved
-loop-i-preserved c =
-    let a = c.args in
-    let l = c.loop-i in
-    let t = c.token_in-t in
-    let x = c.append_item-k.ensures in (
-      omega (arith, t.ensures.le_width c.loop-i-test.true),
-      omega (arith, x.next),
-      l.invariant.2,
-      affix_write (symbol_in a.house.now standard_record) a.s.now l.i l.quoted l.number c.loop-i-test.true t.result t.ensures.value
-          l.invariant.2 l.invariant.3 c.quoted_after-quoted.ensures c.is_number-number.ensures x,
-    )
-
-pub shape_of-out : goal.shape_of-out
-shape_of-out c = c.loop-i.invariant.3.size
+pub loop-item-preserved : goal.loop-item-preserved
+loop-item-preserved c =
+    let i = c.loop-item.invariant in
+    let x = c.append_item-k.ensures in
+    (omega (arith, x.next), i.1, again i.1 i.2 (ap (rendered (symbol_in c.args.house.now standard_record)) c.in-Some.ensures.steps) x)

@@ -1,9 +1,5 @@
 -- `print::print` reads symbols, pattern and number, each of which may be refused, and prints the number.
-use mathlib.Core.Path.{◌≡◌, sym, ◌∙◌}
-use Rattle.std.specs.Prelude.{Ok}
-use Rattle.symbols.specs.Entries.{read_symbols}
-use Rattle.pattern_reader.specs.Reading.{read_pattern}
-use Rattle.number.specs.Reading.{read_number}
+use mathlib.Core.Path.{sym, ◌∙◌}
 use Rattle.print.proofs.Ready.{ready_within, ready_size}
 use Rattle.print.proofs.print.Goals as goal
 

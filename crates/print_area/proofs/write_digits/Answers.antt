@@ -6,56 +6,31 @@ use Rattle.layout.specs.Text.{affixes_of, laid_out}
 use Rattle.print_area.proofs.Room.{needed, laid_aside, short_text, whole_text}
 use Rattle.print_area.proofs.write_digits.Goals as goal
 
-pub returns-then-out-need-clause-value : goal.returns-then-out-need-clause-value
-returns-then-out-need-clause-value c =
-    (let a = c.args in
+pub returns-then-out-need : goal.returns-then-out-need
+returns-then-out-need c =
+    let a = c.args in
     let t = laid_out (symbol_in a.house.now standard_record) a.pattern.now a.p (affixes_of a.p a.negative) a.digits.now in
     let x = c.write_text-need in
     let w = rw c.affixes_of-a.ensures at x.ensures in
-    short_text t a.out.now x.result (needed t _ _ x.result c.requires w) c.if-out-need.true).0
+    let s = short_text t a.out.now x.result (needed t _ _ x.result c.requires w) c.if-out-need.true in
+    record { value = s.0; out_after = s.1 }
 
-pub returns-then-out-need-clause-out_after : goal.returns-then-out-need-clause-out_after
-returns-then-out-need-clause-out_after c =
-    (let a = c.args in
-    let t = laid_out (symbol_in a.house.now standard_record) a.pattern.now a.p (affixes_of a.p a.negative) a.digits.now in
-    let x = c.write_text-need in
-    let w = rw c.affixes_of-a.ensures at x.ensures in
-    short_text t a.out.now x.result (needed t _ _ x.result c.requires w) c.if-out-need.true).1
-
-pub returns-then-need-le-ROOM-clause-value : goal.returns-then-need-le-ROOM-clause-value
-returns-then-need-le-ROOM-clause-value c =
-    (let a = c.args in
+pub returns-then-need-le-ROOM : goal.returns-then-need-le-ROOM
+returns-then-need-le-ROOM c =
+    let a = c.args in
     let t = laid_out (symbol_in a.house.now standard_record) a.pattern.now a.p (affixes_of a.p a.negative) a.digits.now in
     let x = c.write_text-need in
     let w = rw c.affixes_of-a.ensures at x.ensures in
     let n = needed t _ _ x.result c.requires w in
     let e = c.upto.ensures ∙ laid_aside t _ _ x.result n w c.if-need-le-ROOM.true in
-    whole_text t a.out.now _ x.result _ n c.if-out-need.false (renamed e c.append.ensures)).0
+    let s = whole_text t a.out.now _ x.result _ n c.if-out-need.false (renamed e c.append.ensures) in
+    record { value = s.0; out_after = s.1 }
 
-pub returns-then-need-le-ROOM-clause-out_after : goal.returns-then-need-le-ROOM-clause-out_after
-returns-then-need-le-ROOM-clause-out_after c =
-    (let a = c.args in
-    let t = laid_out (symbol_in a.house.now standard_record) a.pattern.now a.p (affixes_of a.p a.negative) a.digits.now in
-    let x = c.write_text-need in
-    let w = rw c.affixes_of-a.ensures at x.ensures in
-    let n = needed t _ _ x.result c.requires w in
-    let e = c.upto.ensures ∙ laid_aside t _ _ x.result n w c.if-need-le-ROOM.true in
-    whole_text t a.out.now _ x.result _ n c.if-out-need.false (renamed e c.append.ensures)).1
-
-pub returns-else-need-le-ROOM-clause-value : goal.returns-else-need-le-ROOM-clause-value
-returns-else-need-le-ROOM-clause-value c =
-    (let a = c.args in
+pub returns-else-need-le-ROOM : goal.returns-else-need-le-ROOM
+returns-else-need-le-ROOM c =
+    let a = c.args in
     let t = laid_out (symbol_in a.house.now standard_record) a.pattern.now a.p (affixes_of a.p a.negative) a.digits.now in
     let f = c.affixes_of-a.ensures in
     let x = c.write_text-need in
-    let w = rw f at x.ensures in
-    whole_text t a.out.now _ x.result _ (needed t _ _ x.result c.requires w) c.if-out-need.false (rw f at c.write_text.ensures)).0
-
-pub returns-else-need-le-ROOM-clause-out_after : goal.returns-else-need-le-ROOM-clause-out_after
-returns-else-need-le-ROOM-clause-out_after c =
-    (let a = c.args in
-    let t = laid_out (symbol_in a.house.now standard_record) a.pattern.now a.p (affixes_of a.p a.negative) a.digits.now in
-    let f = c.affixes_of-a.ensures in
-    let x = c.write_text-need in
-    let w = rw f at x.ensures in
-    whole_text t a.out.now _ x.result _ (needed t _ _ x.result c.requires w) c.if-out-need.false (rw f at c.write_text.ensures)).1
+    let s = whole_text t a.out.now _ x.result _ (needed t _ _ x.result c.requires (rw f at x.ensures)) c.if-out-need.false (rw f at c.write_text.ensures) in
+    record { value = s.0; out_after = s.1 }

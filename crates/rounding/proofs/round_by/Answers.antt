@@ -1,9 +1,8 @@
 -- `rounding::round_by` divides, tests the remainder at the half, and multiplies back; it leaves what is so already.
 use native.Mathlib.Omega.{arith}
-use native.Mathlib.Nat.{mod-lt, mul-le-mul_right}
 use mathlib.Core.Path.{◌≡◌}
 use lib.ListN.{length}
-use Prim.Native.Nat.{◌≤◌, ◌*◌, ◌/◌}
+use Prim.Native.Nat.{◌*◌, ◌/◌}
 use Rattle.decimal.specs.Digits.{value}
 use Rattle.rounding.proofs.Arithmetic.{rounds, same_digits, all_steps, digits_exact}
 use Rattle.rounding.proofs.round_by.Goals as goal
