@@ -6,12 +6,12 @@
 #![tactic(auto)]
 
 ghost use Rattle.std.specs.Prelude.{◌≡◌, [], ◌∷◌};
-ghost use Rattle.answer.specs.Table.{rules_figures, print_figures, figures_of};
+ghost use Rattle.answer.specs.Table.{figures_of};
 ghost use Rattle.answer.specs.Words.{spelling};
 ghost use Rattle.answer.specs.Lists.{figure_list, letter_list};
 
 use answer::{
-    FigureList, Keyword, Letters, MAX_FIGURES, Pair, Place, PrintRow, Refusal, RulesRow, Witness,
+    FigureList, Keyword, Letters, MAX_FIGURES, Pair, PrintRow, Refusal, RulesRow, Witness,
 };
 
 fn none() -> FigureList
@@ -32,55 +32,29 @@ fn one(a: usize) -> FigureList
     }
 }
 
-fn of_place(p: Place) -> FigureList
-    ensures { result ≡ figure_list (p.0 ∷ []) }
-{
-    one(p.0)
-}
-
 fn of_pair(p: Pair) -> FigureList
     ensures { result ≡ figure_list (p.first ∷ p.second ∷ []) }
 {
     FigureList {
         count: 2,
-        values: [p.first as u64, p.second as u64, 0, 0, 0, 0, 0],
+        values: [u64::from(p.first), u64::from(p.second), 0, 0, 0, 0, 0],
     }
 }
 
 fn of_clash(p: Pair, x: Witness) -> FigureList
     ensures { result ≡ figure_list (p.first ∷ p.second ∷ x.e ∷ x.v.0 ∷ x.i ∷ x.f.0 ∷ []) }
 {
-    let v = x.v;
-    let f = x.f;
     FigureList {
         count: 6,
         values: [
-            p.first as u64,
-            p.second as u64,
-            x.e as u64,
-            v.0 as u64,
+            u64::from(p.first),
+            u64::from(p.second),
+            u64::from(x.e),
+            u64::from(x.v.0),
             x.i,
-            f.0,
+            x.f.0,
             0,
         ],
-    }
-}
-
-fn of_rules(r: RulesRow) -> FigureList
-    ensures { result ≡ figure_list (rules_figures r) }
-{
-    match r {
-        RulesRow::TwoRulesMet(p) => of_pair(p),
-        RulesRow::RulesClash(p, x) => of_clash(p, x),
-    }
-}
-
-fn of_printing(r: PrintRow) -> FigureList
-    ensures { result ≡ figure_list (print_figures r) }
-{
-    match r {
-        PrintRow::PrintedExponent => none(),
-        PrintRow::AreaTooShort(n) => one(n),
     }
 }
 
@@ -89,43 +63,31 @@ pub fn figures(r: Refusal) -> FigureList
     ensures { result ≡ figure_list (figures_of r) }
 {
     match r {
-        Refusal::Number(_) => none(),
-        Refusal::PackTooLong => none(),
-        Refusal::Pack(_, at) => of_place(at),
-        Refusal::Rules(row) => of_rules(row),
-        Refusal::Pattern(_) => none(),
-        Refusal::Symbols(_) => none(),
-        Refusal::Print(row) => of_printing(row),
+        Refusal::Pack(_, at) => one(at.0),
+        Refusal::Rules(RulesRow::TwoRulesMet(p)) => of_pair(p),
+        Refusal::Rules(RulesRow::RulesClash(p, x)) => of_clash(p, x),
+        Refusal::Print(PrintRow::AreaTooShort(n)) => one(n),
+        Refusal::Number(_)
+        | Refusal::PackTooLong
+        | Refusal::Pattern(_)
+        | Refusal::Symbols(_)
+        | Refusal::Print(PrintRow::PrintedExponent) => none(),
     }
 }
 
 pub fn word(k: Keyword) -> Letters
     ensures { result ≡ letter_list (spelling k) }
 {
-    match k {
-        Keyword::Zero => Letters {
-            len: 4,
-            letters: [122, 101, 114, 111, 0],
-        },
-        Keyword::One => Letters {
-            len: 3,
-            letters: [111, 110, 101, 0, 0],
-        },
-        Keyword::Two => Letters {
-            len: 3,
-            letters: [116, 119, 111, 0, 0],
-        },
-        Keyword::Few => Letters {
-            len: 3,
-            letters: [102, 101, 119, 0, 0],
-        },
-        Keyword::Many => Letters {
-            len: 4,
-            letters: [109, 97, 110, 121, 0],
-        },
-        Keyword::Other => Letters {
-            len: 5,
-            letters: [111, 116, 104, 101, 114],
-        },
+    let (len, letters) = match k {
+        Keyword::Zero => (4, b"zero\0"),
+        Keyword::One => (3, b"one\0\0"),
+        Keyword::Two => (3, b"two\0\0"),
+        Keyword::Few => (3, b"few\0\0"),
+        Keyword::Many => (4, b"many\0"),
+        Keyword::Other => (5, b"other"),
+    };
+    Letters {
+        len,
+        letters: *letters,
     }
 }

@@ -39,8 +39,7 @@ fn rules_row(r: RulesRow) -> u8
     ensures { result ≡ rules_row r }
 {
     match r {
-        RulesRow::TwoRulesMet(_) => 27,
-        RulesRow::RulesClash(_, _) => 27,
+        RulesRow::TwoRulesMet(_) | RulesRow::RulesClash(_, _) => 27,
     }
 }
 

@@ -4,6 +4,7 @@
 // a write fails it ends with that error, and writes nothing more.
 #![tactic(auto)]
 
+use decimal::cut::{after, upto};
 use line::Cut;
 use std::io;
 use std::io::{Read, Write};
@@ -11,7 +12,7 @@ use std::io::{Read, Write};
 // Answers are written out once so many bytes of them are there: the longest answer fits behind.
 const ENOUGH: usize = 61_440;
 
-#[derive(Clone, Copy)]
+#[derive(Default, Drop)]
 struct State {
     // the bytes of the buffer that are read and not yet answered
     from: usize,
@@ -22,85 +23,81 @@ struct State {
     last: bool,
     // how many bytes of answers wait to be written
     used: usize,
-    // whether to go on
-    on: bool,
 }
 
-fn stopped(s: State) -> State {
-    let mut next = s;
-    next.on = false;
-    next
-}
-
-// Writes what waits.
-fn flushed(output: &mut impl Write, out: &[u8], s: State) -> io::Result<State> {
-    output.write_all(decimal::cut::upto(out, s.used))?;
-    let mut next = s;
-    next.used = 0;
-    Ok(next)
-}
-
-// Answers the line of n bytes.
-fn answered(
-    output: &mut impl Write,
-    buffer: &[u8],
-    out: &mut [u8],
-    s: State,
-    n: usize,
-) -> io::Result<State> {
-    let rest = decimal::cut::after(decimal::cut::upto(buffer, s.held), s.from);
-    let mut next = s;
-    next.used = bench_line::append_answer(out, s.used, decimal::cut::upto(rest, n), s.long);
-    next.long = false;
-    next.from = line::next_line(s.from, n, s.held);
-    if ENOUGH < next.used {
-        return flushed(output, out, next);
+impl State {
+    // Writes what waits.
+    fn flush(&mut self, output: &mut impl Write, out: &[u8]) -> io::Result<()> {
+        output.write_all(upto(out, self.used))?;
+        self.used = 0;
+        Ok(())
     }
-    Ok(next)
-}
 
-// Reads more behind the bytes held, once the answers that wait are written.
-fn refilled(
-    input: &mut impl Read,
-    output: &mut impl Write,
-    buffer: &mut [u8],
-    out: &[u8],
-    s: State,
-) -> io::Result<State> {
-    let mut next = flushed(output, out, s)?;
-    let kept = line::keep_rest(buffer, s.from, s.held);
-    next.from = 0;
-    next.held = kept;
-    if buffer.len() <= kept {
-        return Ok(stopped(next));
-    }
-    let got = input.read(&mut buffer[kept..])?;
-    next.last = got == 0;
-    next.held = line::held_after(kept, got, buffer.len());
-    Ok(next)
-}
-
-// One turn: a line is answered, or more is read, or all is done.
-fn turn(
-    input: &mut impl Read,
-    output: &mut impl Write,
-    buffer: &mut [u8],
-    out: &mut [u8],
-    s: State,
-) -> io::Result<State> {
-    let rest = decimal::cut::after(decimal::cut::upto(buffer, s.held), s.from);
-    let cut = line::cut_line(rest, s.long, s.last);
-    match cut {
-        Cut::Line(n) => answered(output, buffer, out, s, n),
-        Cut::Over => {
-            let mut next = s;
-            next.from = 0;
-            next.held = 0;
-            next.long = true;
-            Ok(next)
+    // Answers the line of n bytes that `rest` begins with.
+    fn answer(
+        &mut self,
+        output: &mut impl Write,
+        rest: &[u8],
+        out: &mut [u8],
+        n: usize,
+    ) -> io::Result<()> {
+        self.used = bench_line::append_answer(out, self.used, upto(rest, n), self.long);
+        self.long = false;
+        self.from = line::next_line(self.from, n, self.held);
+        if ENOUGH < self.used {
+            self.flush(output, out)?;
         }
-        Cut::More => refilled(input, output, buffer, out, s),
-        Cut::Done => Ok(stopped(flushed(output, out, s)?)),
+        Ok(())
+    }
+
+    // Reads more behind the bytes held, once the answers that wait are written. Answers whether the
+    // buffer had room for more.
+    fn refill(
+        &mut self,
+        input: &mut impl Read,
+        output: &mut impl Write,
+        buffer: &mut [u8],
+        out: &[u8],
+    ) -> io::Result<bool> {
+        self.flush(output, out)?;
+        let kept = line::keep_rest(buffer, self.from, self.held);
+        self.from = 0;
+        self.held = kept;
+        if buffer.len() <= kept {
+            return Ok(false);
+        }
+        let got = input.read(&mut buffer[kept..])?;
+        self.last = got == 0;
+        self.held = line::held_after(kept, got, buffer.len());
+        Ok(true)
+    }
+
+    // One turn: a line is answered, or more is read, or all is done. Answers whether to go on.
+    fn turn(
+        &mut self,
+        input: &mut impl Read,
+        output: &mut impl Write,
+        buffer: &mut [u8],
+        out: &mut [u8],
+    ) -> io::Result<bool> {
+        let rest = after(upto(buffer, self.held), self.from);
+        match line::cut_line(rest, self.long, self.last) {
+            Cut::Line(n) => {
+                self.answer(output, rest, out, n)?;
+                Ok(true)
+            }
+            Cut::Over => {
+                self.from = 0;
+                self.held = 0;
+                self.long = true;
+                Ok(true)
+            }
+            Cut::More => self.refill(input, output, buffer, out),
+            Cut::Done => {
+                self.flush(output, out)?;
+                Ok(false)
+            }
+        }
     }
 }
 
@@ -109,19 +106,11 @@ fn main(rt: HostRuntime) -> io::Result<()> {
     let mut output = rt.stdout();
     let mut buffer = [0u8; 65_536];
     let mut out = [0u8; 65_536];
-    let mut s = State {
-        from: 0,
-        held: 0,
-        long: false,
-        last: false,
-        used: 0,
-        on: true,
-    };
+    let mut state = State::default();
     // A proved loop has to end: no run uses up so many turns.
     for _ in 0..u64::MAX {
-        s = turn(&mut input, &mut output, &mut buffer, &mut out, s)?;
-        if !s.on {
-            return Ok(());
+        if !state.turn(&mut input, &mut output, &mut buffer, &mut out)? {
+            break;
         }
     }
     Ok(())

@@ -4,12 +4,11 @@ use Rattle.answer.specs.declared.Keyword.{Keyword}
 use mathlib.Core.Path.{◌≡◌, sym, ap, subst, ◌∙◌}
 use mathlib.Core.Bool.{true, false}
 use mathlib.Core.List.{List, [], ◌∷◌, ◌++◌}
-use Prim.Native.Nat.{ℕ, ◌+◌, ◌≤◌, ◌<◌, min}
-use native.Mathlib.Omega.{arith}
+use Prim.Native.Nat.{ℕ, ◌+◌, ◌≤◌, ◌<◌}
 use native.Mathlib.Numerals.{add-one}
-use lib.ListN.{length, get_or, take, drop, drop_of_length-le, length-take}
+use lib.ListN.{length, get_or, take, drop, drop_of_length-le}
 use lib.Dec.{ltb}
-use lib.Seq.{drop-cons, drop-drop, get_or-take, take_at}
+use lib.Seq.{drop-cons, drop-drop, take_at}
 use Rattle.decimal.specs.Digits.{numeral}
 use Rattle.line.specs.Jobs.{job_at, job_of}
 use Rattle.bench_line.specs.Lines.{spaced, refusal_text, selection_text, check_text, max_output, printed_text, format_text, job_text, job_answer}
@@ -24,14 +23,12 @@ use Rattle.decimal.proofs.Choices.{tested, never}
 use Rattle.select_text.specs.Select.{select_of}
 use Rattle.check_text.specs.Check.{check_pack}
 
--- the figures that are left: one and the rest, or none
-pub spaced_next : (vs : List ℕ) (n k : ℕ) → k < n → k < length vs
-    → spaced (drop k (take n vs)) ≡ (32 ∷ numeral (get_or vs k 0)) ++ spaced (drop (k + 1) (take n vs))
-spaced_next vs n k h l =
-    rw (drop-cons (take n vs) k 0 (omega (arith, length-take n vs)), get_or-take n vs k 0 h, add-one k)
+-- the numbers that are left: one and the rest, or none
+pub spaced_at : (vs : List ℕ) (k n : ℕ) → (k < length vs) × (n ≡ get_or vs k n) → spaced (drop k vs) ≡ (32 ∷ numeral n) ++ spaced (drop (k + 1) vs)
+spaced_at vs k n h = rw (drop-cons vs k n h.0, add-one k, ← h.1)
 
-pub spaced_done : (vs : List ℕ) (n k : ℕ) → min n (length vs) ≤ k → spaced (drop k (take n vs)) ≡ []
-spaced_done vs n k h = rw (drop_of_length-le (take n vs) {i = k} (omega (arith, length-take n vs)))
+pub spaced_end : (vs : List ℕ) (k : ℕ) → length vs ≤ k → spaced (drop k vs) ≡ []
+spaced_end vs k h = rw (drop_of_length-le vs {i = k} h)
 
 -- the answer to a line whose job is told by the lengths of its fields
 pub answer_of_law : (line : List ℕ) (r c : JobCut) (written : List ℕ) → job_at (drop 2 line) r ≡ job_of line → r ≡ c → written ≡ job_text (job_at (drop 2 line) c) → written ≡ job_answer line

@@ -11,8 +11,8 @@ ghost use Rattle.bench_line.specs.Lines.{unread, spaced, refusal_text, word_text
 ghost use Rattle.bench_line.specs.Stream.{cut_answer};
 ghost use Rattle.print.specs.Outcome.{outcome};
 
-use answer::{FigureList, Keyword, MAX_FIGURES, Refusal};
-use decimal::num::wide_byte;
+use answer::{FigureList, Keyword, Refusal};
+use decimal::cut::{after, upto};
 use line::{JobCut, MAX_LINE, read_job};
 
 // Appends `? ` and a number.
@@ -21,14 +21,14 @@ fn append_unread(out: &mut [u8], at: usize, n: u64) -> usize
 {
     let mark = area::append(out, at, b"? ");
     let number = area::append_number(out, mark, n);
-    area::put(out, number, 10)
+    area::put(out, number, b'\n')
 }
 
 // Appends a space and a number.
 fn append_spaced(out: &mut [u8], at: usize, n: u64) -> usize
     ensures { Wrote out.old at (32 ∷ numeral n) out.new result }
 {
-    let space = area::put(out, at, 32);
+    let space = area::put(out, at, b' ');
     area::append_number(out, space, n)
 }
 
@@ -36,15 +36,9 @@ fn append_spaced(out: &mut [u8], at: usize, n: u64) -> usize
 fn append_figures(out: &mut [u8], at: usize, f: FigureList) -> usize
     ensures { Wrote out.old at (spaced (take f.count f.values)) out.new result }
 {
-    let values = f.values;
     let mut end = at;
-    let mut k = 0;
-    while k < MAX_FIGURES {
-        if f.count <= k {
-            return end;
-        }
-        end = append_spaced(out, end, values[k]);
-        k += 1;
+    for n in f.values.iter().take(f.count) {
+        end = append_spaced(out, end, *n);
     }
     end
 }
@@ -54,10 +48,10 @@ fn append_refusal(out: &mut [u8], at: usize, letter: u8, refusal: Refusal) -> us
     ensures { Wrote out.old at (refusal_text letter refusal) out.new result }
 {
     let name = area::put(out, at, letter);
-    let mark = area::put(out, name, 33);
-    let number = append_spaced(out, mark, wide_byte(answer_table::number(refusal)));
+    let mark = area::put(out, name, b'!');
+    let number = append_spaced(out, mark, u64::from(answer_table::number(refusal)));
     let figures = append_figures(out, number, answer_lists::figures(refusal));
-    area::put(out, figures, 10)
+    area::put(out, figures, b'\n')
 }
 
 // Appends `s` and a word.
@@ -65,10 +59,9 @@ fn append_word(out: &mut [u8], at: usize, k: Keyword) -> usize
     ensures { Wrote out.old at (word_text k) out.new result }
 {
     let word = answer_lists::word(k);
-    let letters = word.letters;
     let name = area::append(out, at, b"s ");
-    let end = area::append(out, name, decimal::cut::upto(&letters, word.len));
-    area::put(out, end, 10)
+    let end = area::append(out, name, upto(&word.letters, word.len));
+    area::put(out, end, b'\n')
 }
 
 fn append_selection(out: &mut [u8], at: usize, s: Result<Keyword, Refusal>) -> usize
@@ -76,7 +69,7 @@ fn append_selection(out: &mut [u8], at: usize, s: Result<Keyword, Refusal>) -> u
 {
     match s {
         Ok(k) => append_word(out, at, k),
-        Err(refusal) => append_refusal(out, at, 115, refusal),
+        Err(refusal) => append_refusal(out, at, b's', refusal),
     }
 }
 
@@ -85,7 +78,7 @@ fn append_check(out: &mut [u8], at: usize, c: Result<(), Refusal>) -> usize
 {
     match c {
         Ok(()) => area::append(out, at, b"c ok\n"),
-        Err(refusal) => append_refusal(out, at, 99, refusal),
+        Err(refusal) => append_refusal(out, at, b'c', refusal),
     }
 }
 
@@ -95,7 +88,7 @@ fn append_text(out: &mut [u8], at: usize, text: &[u8]) -> usize
 {
     let name = area::append(out, at, b"f ");
     let end = area::append(out, name, text);
-    area::put(out, end, 10)
+    area::put(out, end, b'\n')
 }
 
 // Prints into an area of its own, and appends the text or the refusal.
@@ -103,10 +96,9 @@ fn append_format(out: &mut [u8], at: usize, pattern: &[u8], number: &[u8]) -> us
     ensures { Wrote out.old at (format_text (outcome [] pattern.now number.now)) out.new result }
 {
     let mut text = [0u8; 2048];
-    let printed = print::print(b"", pattern, number, &mut text);
-    match printed {
-        Ok(n) => append_text(out, at, decimal::cut::upto(&text, n)),
-        Err(refusal) => append_refusal(out, at, 102, refusal),
+    match print::print(b"", pattern, number, &mut text) {
+        Ok(n) => append_text(out, at, upto(&text, n)),
+        Err(refusal) => append_refusal(out, at, b'f', refusal),
     }
 }
 
@@ -114,24 +106,17 @@ fn append_format(out: &mut [u8], at: usize, pattern: &[u8], number: &[u8]) -> us
 fn append_job(out: &mut [u8], at: usize, line: &[u8]) -> usize
     ensures { Wrote out.old at (job_answer line.now) out.new result }
 {
-    let fields = decimal::cut::after(line, 2);
-    let job = read_job(line);
-    match job {
-        JobCut::SelectAt(n) => append_selection(
-            out,
-            at,
-            select_text::select(
-                decimal::cut::upto(fields, n),
-                decimal::cut::after(decimal::cut::after(fields, n), 1),
-            ),
-        ),
+    let fields = after(line, 2);
+    match read_job(line) {
+        JobCut::SelectAt(n) => {
+            let number = after(after(fields, n), 1);
+            append_selection(out, at, select_text::select(upto(fields, n), number))
+        }
         JobCut::CheckAt => append_check(out, at, check_text::check(fields)),
-        JobCut::FormatAt(n) => append_format(
-            out,
-            at,
-            decimal::cut::upto(fields, n),
-            decimal::cut::after(decimal::cut::after(fields, n), 1),
-        ),
+        JobCut::FormatAt(n) => {
+            let number = after(after(fields, n), 1);
+            append_format(out, at, upto(fields, n), number)
+        }
         JobCut::Unknown => append_unread(out, at, 61),
     }
 }
@@ -140,11 +125,9 @@ fn append_job(out: &mut [u8], at: usize, line: &[u8]) -> usize
 pub fn append_answer(out: &mut [u8], at: usize, line: &[u8], long: bool) -> usize
     ensures { Wrote out.old at (cut_answer long line.now) out.new result }
 {
-    if long {
-        return append_unread(out, at, 60);
+    if long || MAX_LINE < line.len() {
+        append_unread(out, at, 60)
+    } else {
+        append_job(out, at, line)
     }
-    if MAX_LINE < line.len() {
-        return append_unread(out, at, 60);
-    }
-    append_job(out, at, line)
 }

@@ -33,10 +33,7 @@ fn reached(a: u32, b: u32) -> u64
 {
     let u = u64::from(a) % 10;
     let n = u64::from(b.saturating_sub(a));
-    if 9 <= n {
-        return EACH;
-    }
-    digits_from(u, n)
+    if 9 <= n { EACH } else { digits_from(u, n) }
 }
 
 // The digits in one of which ends a number in a range from place `from` to before `to`.
@@ -46,7 +43,7 @@ fn any_reached(pack: &Pack, from: usize, to: usize) -> u64
 {
     let mut mask: u64 = 0;
     for k in from..to {
-        mask = mask | reached(pack.low[k], pack.high[k]);
+        mask |= reached(pack.low[k], pack.high[k]);
     }
     mask
 }
@@ -56,10 +53,7 @@ fn is_spared(a: u32, b: u32, m: u32, d: u64) -> bool
     requires { d < 10 }
     ensures { result ≡ spares m d (record { low = a; high = b }) }
 {
-    if d < u64::from(a) {
-        return true;
-    }
-    u64::from(b) + 10 < u64::from(m) + d
+    d < u64::from(a) || u64::from(b) + 10 < u64::from(m) + d
 }
 
 // The digits that it spares.
@@ -80,9 +74,10 @@ fn spared(a: u32, b: u32, m: u32) -> u64
     ensures { (result ≡ values_of (λ (d : ℕ). spares m d (record { low = a; high = b })) 10) × (result < 1_024) }
 {
     if u64::from(b) + 10 < u64::from(m) {
-        return EACH;
+        EACH
+    } else {
+        spared_digits(a, b, m)
     }
-    spared_digits(a, b, m)
 }
 
 // The digits that each range from place `from` to before `to` spares.
@@ -92,7 +87,7 @@ fn all_spared(pack: &Pack, from: usize, to: usize, m: u32) -> u64
 {
     let mut mask = EACH;
     for k in from..to {
-        mask = mask & spared(pack.low[k], pack.high[k], m);
+        mask &= spared(pack.low[k], pack.high[k], m);
     }
     mask
 }

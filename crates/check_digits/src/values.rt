@@ -72,24 +72,14 @@ pub fn zero_of(pack: &Pack, s: Single) -> u64
 fn is_between(b: Bounds, v: Places) -> bool
     ensures { result ≡ from_to b v.0 }
 {
-    let least = b.least;
-    if v.0 < least.0 {
-        return false;
-    }
-    let most = b.most;
-    v.0 <= most.0
+    b.least.0 <= v.0 && v.0 <= b.most.0
 }
 
 // Whether every v is.
 pub fn is_free(b: Bounds) -> bool
     ensures { result ≡ true → (b.least.0 ≡ 0) × (max_places ≤ b.most.0) }
 {
-    let least = b.least;
-    if 0 < least.0 {
-        return false;
-    }
-    let most = b.most;
-    LAST_V <= most.0
+    b.least.0 == 0 && LAST_V <= b.most.0
 }
 
 // Those that are.

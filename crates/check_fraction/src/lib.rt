@@ -117,14 +117,12 @@ fn least_f(pack: &Pack, s: Span) -> u64
 fn zeros_of(f: u64) -> u64
     ensures { (result < max_places) × (f % 10 ^ result ≡ 0) }
 {
-    let mut k: u64 = 0;
-    while k + 1 < limits::MAX_PLACES {
-        if f % power(k + 1) != 0 {
-            return k;
+    for k in 1..limits::MAX_PLACES {
+        if f % power(k) != 0 {
+            return k - 1;
         }
-        k += 1;
     }
-    k
+    limits::MAX_PLACES - 1
 }
 
 // v and f as one number.

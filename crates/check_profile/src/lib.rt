@@ -19,7 +19,7 @@ ghost use Rattle.check_laws.specs.Profile.{packed, profile_of, whole_digits, par
 
 use check_digits::{digits, values};
 use check_laws::{Bounds, limits};
-use pack_rules::{Pack, Single, single_at};
+use pack_rules::{Pack, Single, letter, single_at};
 
 // Every e, and every v or w.
 const EACH_E: u64 = 32_767;
@@ -81,36 +81,40 @@ fn relation_profile(pack: &Pack, s: Single) -> u64
     requires { s.to ≤ range_room }
     ensures { result ≡ profile_of (relation_by pack.now.low pack.now.high s ∷ []) }
 {
-    let o = s.operand;
-    if o == 110 {
-        let d = digits::digits_of(pack, s);
-        if s.negated {
-            return pack_parts(EACH_E, EACH_PLACE, EACH_PLACE, N_ASKED, d, EACH_DIGIT);
+    match s.operand {
+        letter::N => {
+            let d = digits::digits_of(pack, s);
+            if s.negated {
+                pack_parts(EACH_E, EACH_PLACE, EACH_PLACE, N_ASKED, d, EACH_DIGIT)
+            } else {
+                pack_parts(EACH_E, EACH_PLACE, 1, N_ASKED, d, EACH_DIGIT)
+            }
         }
-        return pack_parts(EACH_E, EACH_PLACE, 1, N_ASKED, d, EACH_DIGIT);
+        letter::I => {
+            let d = digits::digits_of(pack, s);
+            pack_parts(EACH_E, EACH_PLACE, EACH_PLACE, NEITHER_ASKED, d, d)
+        }
+        letter::F => {
+            let zero = values::zero_of(pack, s);
+            any_digit(EACH_E, EACH_PLACE, EACH_PLACE, zero + F_ASKED)
+        }
+        letter::T => {
+            let zero = values::zero_of(pack, s);
+            any_digit(EACH_E, EACH_PLACE, EACH_PLACE, zero + T_ASKED)
+        }
+        letter::V => {
+            let v = values::places_of(pack, s);
+            any_digit(EACH_E, v, EACH_PLACE, NEITHER_ASKED)
+        }
+        letter::W => {
+            let w = values::places_of(pack, s);
+            any_digit(EACH_E, EACH_PLACE, w, NEITHER_ASKED)
+        }
+        _ => {
+            let e = values::exponents_of(pack, s);
+            any_digit(e, EACH_PLACE, EACH_PLACE, NEITHER_ASKED)
+        }
     }
-    if o == 105 {
-        let d = digits::digits_of(pack, s);
-        return pack_parts(EACH_E, EACH_PLACE, EACH_PLACE, NEITHER_ASKED, d, d);
-    }
-    if o == 102 {
-        let zero = values::zero_of(pack, s);
-        return any_digit(EACH_E, EACH_PLACE, EACH_PLACE, zero + F_ASKED);
-    }
-    if o == 116 {
-        let zero = values::zero_of(pack, s);
-        return any_digit(EACH_E, EACH_PLACE, EACH_PLACE, zero + T_ASKED);
-    }
-    if o == 118 {
-        let v = values::places_of(pack, s);
-        return any_digit(EACH_E, v, EACH_PLACE, NEITHER_ASKED);
-    }
-    if o == 119 {
-        let w = values::places_of(pack, s);
-        return any_digit(EACH_E, EACH_PLACE, w, NEITHER_ASKED);
-    }
-    let e = values::exponents_of(pack, s);
-    any_digit(e, EACH_PLACE, EACH_PLACE, NEITHER_ASKED)
 }
 
 // The profile of the relations from place `from` to before `to`.
@@ -120,7 +124,7 @@ pub fn clause_profile(pack: &Pack, from: usize, to: usize) -> u64
 {
     let mut p = any_digit(EACH_E, EACH_PLACE, EACH_PLACE, NEITHER_ASKED);
     for j in from..to {
-        p = p & relation_profile(pack, single_at(pack, j));
+        p &= relation_profile(pack, single_at(pack, j));
     }
     p
 }

@@ -11,7 +11,6 @@ ghost use Rattle.check_relation.specs.Runs.{tier};
 use crate::{KEPT, LevelList, LevelMarks, clause};
 use check_laws::{Query, Span};
 use check_relation::relation;
-use decimal::num::wide;
 use pack_rules::{Pack, Single, single_at};
 
 // The level that is told of a relation that is not asked.
@@ -49,7 +48,7 @@ fn mark_of(q: Query, s: Single, marks: &mut LevelMarks) -> usize
     if k == 0 {
         return UNASKED;
     }
-    let l = relation::level_of(k, wide(s.modulus));
+    let l = relation::level_of(k, u64::from(s.modulus));
     mark(marks, l);
     l
 }

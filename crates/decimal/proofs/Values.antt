@@ -3,10 +3,12 @@ use mathlib.Core.Path.{◌≡◌, refl, ap, ◌∙◌}
 use mathlib.Core.List.{List, [], ◌∷◌, ◌++◌}
 use Prim.Native.Nat.{ℕ, zero, suc, ◌+◌, ◌*◌, ◌-◌, ◌^◌, ◌≤◌, ◌<◌, min}
 use native.Mathlib.Omega.{arith}
-use native.Mathlib.Nat.{pow-succ', mul-le-mul_right, pow-le-pow_right, one-le-pow}
+use native.Mathlib.Nat.{pow-succ', mul-le-mul_right, pow-le-pow_right, one-le-pow, zero-sub, sub-zero, suc-sub-suc}
+use native.Mathlib.Numerals.{add-one}
 use borrow.Author.Tests.{leb-true, leb-false}
 use lib.Dec.{leb}
-use lib.ListN.{length, take, replicate}
+use lib.ListN.{length, get_or, take, replicate}
+use lib.Seq.{take-suc}
 use Rattle.std.specs.List.{fold}
 use Rattle.decimal.specs.Digits.{is_digit, value_from, value, first, cap, AllDigits}
 use Rattle.decimal.proofs.Choices.{tested}
@@ -29,15 +31,20 @@ value_append n (b ∷ s) t = value_append (10 * n + (b - 48)) s t
 pub value_snoc : (n : ℕ) (s : List ℕ) (b : ℕ) → value_from n (s ++ (b ∷ [])) ≡ 10 * value_from n s + (b - 48)
 value_snoc n s b = value_append n s (b ∷ [])
 
--- the first digits are the first of the text and, after its end, of zeros
-pub first_is : (k : ℕ) (s : List ℕ) → take k (s ++ replicate k 48) ≡ first k s
-first_is k s = first_of k k s (omega arith)
-  where
-    first_of : (k n : ℕ) (s : List ℕ) → k ≤ n → take k (s ++ replicate n 48) ≡ first k s
-    first_of zero n s h = refl
-    first_of (suc k) zero s h = absurd (omega arith)
-    first_of (suc k) (suc n) [] h = ap (λ (l : List ℕ). 48 ∷ l) (first_of k n [] (omega arith))
-    first_of (suc k) (suc n) (b ∷ s) h = ap (λ (l : List ℕ). b ∷ l) (first_of k (suc n) s (omega arith))
+pub value_more : (n : ℕ) (s : List ℕ) (i : ℕ) → i < length s
+    → value_from n (take (i + 1) s) ≡ 10 * value_from n (take i s) + (get_or s i 0 - 48)
+value_more n s i h = rw (add-one, take-suc s i 0 h) (value_snoc n (take i s) (get_or s i 0))
+
+-- the first digits are those of the text, and zeros after its end
+first_zeros : (k : ℕ) → replicate k 48 ≡ first k []
+first_zeros zero = refl
+first_zeros (suc k) = ap (λ (l : List ℕ). 48 ∷ l) (first_zeros k)
+
+first_is : (k : ℕ) (s : List ℕ) → take k s ++ replicate (k - length s) 48 ≡ first k s
+first_is zero [] = refl
+first_is zero (b ∷ s) = rw zero-sub
+first_is (suc k) [] = rw sub-zero (first_zeros (suc k))
+first_is (suc k) (b ∷ s) = rw suc-sub-suc (ap (λ (l : List ℕ). b ∷ l) (first_is k s))
 
 pub length_first : (k : ℕ) (s : List ℕ) → length (first k s) ≡ k
 length_first zero s = refl
@@ -78,6 +85,13 @@ one_more n b = min (10 * n + (b - 48)) cap
 pub value_fold : (n : ℕ) (s : List ℕ) → min (fold one_more n s) cap ≡ min (value_from n s) cap
 value_fold n [] = refl
 value_fold n (b ∷ s) = value_fold (one_more n b) s ∙ value_cap (10 * n + (b - 48)) cap s
+
+pub value_padded : (n k : ℕ) (s : List ℕ)
+    → min (fold one_more (min (value_from n (take k s)) cap) (replicate (k - length s) 48)) cap ≡ min (value_from n (first k s)) cap
+value_padded n k s =
+    let z = replicate (k - length s) 48 in
+    let m = value_from n (take k s) in
+    value_fold (min m cap) z ∙ value_cap m cap z ∙ rw (← value_append n (take k s) z, first_is k s)
 
 -- further digits multiply what stands before them by ten to their number
 pub value_from_law : (n : ℕ) (s : List ℕ) → value_from n s ≡ n * 10 ^ length s + value s

@@ -8,6 +8,7 @@ pub fn write_figures(out: &mut [u8], n: u64)
 {
     out.fill(b'0');
     let mut m = n;
+    // By index: no clause says what writes through a slice's `iter_mut` leave.
     for i in (0..out.len()).rev() {
         if m == 0 {
             return;

@@ -3,6 +3,7 @@
 ghost use Rattle.std.specs.Prelude.{◌≡◌, ◌+◌, ◌*◌, ◌-◌, min};
 ghost use Rattle.decimal.specs.Digits.{value_from, value, first, cap};
 
+use crate::cut;
 use std::iter::repeat_n;
 
 const CAP: u64 = 1_000_000_000_000_000_000;
@@ -43,10 +44,8 @@ pub fn value_of(s: &[u8]) -> u64
 pub fn value_first(n: u64, k: usize, s: &[u8]) -> u64
     ensures { result ≡ min (value_from n (first k s.now)) cap }
 {
-    s.iter()
-        .copied()
-        .chain(repeat_n(b'0', k))
-        .take(k)
-        .fold(n, one_more)
+    let zeros = repeat_n(b'0', k.saturating_sub(s.len()));
+    zeros
+        .fold(value_from(n, cut::upto(s, k)), one_more)
         .min(CAP)
 }

@@ -13,6 +13,7 @@ use Rattle.decimal.proofs.Choices.{tested, not_both}
 use Rattle.pattern_token.specs.declared.Item.TheVariants.{Text}
 use Rattle.pattern_token.specs.Items.{token_at, token, items_from}
 use Rattle.symbols.specs.declared.Symbol.{Symbol}
+use Rattle.std.specs.List.{list_all}
 use Rattle.layout.specs.Text.{rendered}
 use Rattle.layout.specs.Plain.{is_plain, plain}
 
@@ -68,12 +69,7 @@ plain_rendered symbol q n (b ∷ s) h =
     (λ e. rw (plain_token q n b s e) (ap (λ (l : List ℕ). b ∷ l) (plain_rendered symbol q false s (rw e at h))))
     (λ e. not_both h (rw e))
 
--- the scan
-pub plain_more : (s : List ℕ) (i : ℕ) → i < length s → is_plain (get_or s i 0) ≡ true → plain (drop i s) ≡ plain (drop (i + 1) s)
-plain_more s i h e = rw (add-one, drop-cons s i 0 h, e)
-
-pub plain_end : (s : List ℕ) (i : ℕ) → i < length s → is_plain (get_or s i 0) ≡ false → plain (drop i s) ≡ false
-plain_end s i h e = rw (drop-cons s i 0 h, e)
-
-pub plain_out : (s : List ℕ) (i : ℕ) → length s ≤ i → plain (drop i s) ≡ true
-plain_out s i h = rw (drop_of_length-le s h)
+-- what the library answers of each byte
+pub plain_all : (s : List ℕ) → list_all is_plain s ≡ plain s
+plain_all [] = refl
+plain_all (b ∷ s) = tested (is_plain b) (λ e. rw e (plain_all s)) (λ e. rw e)

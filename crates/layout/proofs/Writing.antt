@@ -31,9 +31,6 @@ nothing o a h = record { area = refl; next = omega arith }
 
 -- ---- affixes
 
-pub affix_done : (symbol : Symbol → List ℕ) (s : List ℕ) (i : ℕ) (q n : Bool) → length s ≤ i → rendered symbol (items_from q n 0 (drop i s)) ≡ []
-affix_done symbol s i q n h = rw (drop_of_length-le s h)
-
 module _ (symbol : Symbol → List ℕ) (s : List ℕ) (i : ℕ) (q n : Bool) (h : i < length s) (t : Token) (e : t ≡ token_at q n (drop i s))
     {o o' w : List ℕ} {a a' : ℕ} (room : length o ≤ most) (l : Left o a w o' a' (rendered symbol (items_from q n 0 (drop i s)))) where
   affix_split : rendered symbol (items_from q n 0 (drop i s))
@@ -57,10 +54,6 @@ grouped_step nought g p q d i h = rw (drop-cons d i 0 h, length-drop (suc i) d, 
 pub grouped_end : (nought : ℕ) (g : List ℕ) (p q : ℕ) (d : List ℕ) (i : ℕ) → length d ≤ i → grouped nought g p q (drop i d) ≡ []
 grouped_end nought g p q d i h = rw (drop_of_length-le d h)
 
--- with no secondary size a symbol stands before the primary group alone
-pub mark_zero : (left primary secondary : ℕ) → secondary ≡ 0 → eqb (left - primary) 0 ≡ eqb ((left - primary) % secondary) 0
-mark_zero left primary secondary e = rw (e, mod-zero (left - primary))
-
 -- ---- the primary size
 
 pub size_none : (minimum digits : ℕ) → 0 ≡ group_size minimum 0 digits
@@ -72,26 +65,9 @@ size_few minimum primary digits h = rw (lt-ltb digits (primary + minimum) h)
 pub size_many : (minimum primary digits : ℕ) → primary + minimum ≤ digits → primary ≡ group_size minimum primary digits
 size_many minimum primary digits h = rw (le-ltb digits (primary + minimum) h)
 
--- ---- the digits shown
-
-pub whole_is : (least most' : ℕ) (d s : List ℕ) (n z k m : ℕ) → n ≡ length d - most' → s ≡ take n d → z ≡ lead s → k ≡ length s - least → m ≡ min z k
-    → drop m s ≡ whole_digits least most' d
-whole_is least most' d s n z k m en es ez ek em =
-    let e : s ≡ take (length d - most') d = rw en at es in
-    rw (em, ez, ek, e)
-
-pub fraction_is : (least most' : ℕ) (d s : List ℕ) (n z m : ℕ) → n ≡ length d - most' → s ≡ drop n d → z ≡ length (trim s) → m ≡ max least z
-    → take m s ≡ fraction_digits least most' d
-fraction_is least most' d s n z m en es ez em =
-    let e : s ≡ drop (length d - most') d = rw en at es in
-    rw (em, ez, e)
-
 -- the parts under the definition's names
 pub number_is : (symbol : Symbol → List ℕ) (p : Pattern) (d group point whole fraction : List ℕ) (size : ℕ) → group ≡ symbol Group → point ≡ symbol Decimal
     → whole ≡ whole_digits p.least p.most d → size ≡ group_size (minimum_in symbol) p.primary (length whole)
     → fraction ≡ fraction_digits p.fraction p.most d
     → body zero_digit point group size p.secondary whole fraction ≡ number_text symbol p d
 number_is symbol p d group point whole fraction size eg ep ew es ef = rw (eg, ep, es, ew, ef)
-
-pub part_is : (symbol : Symbol → List ℕ) (s : List ℕ) (p : Span) (x y : List ℕ) → x ≡ drop p.start s → y ≡ take p.len x → rendered symbol (items y) ≡ affix_text symbol s p
-part_is symbol s p x y ex ey = rw (ey, ex)

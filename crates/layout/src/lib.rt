@@ -14,9 +14,11 @@ ghost use Rattle.layout.specs.Layout.{whole_digits, fraction_digits, zero_digit,
 ghost use Rattle.layout.specs.Plain.{is_plain, plain};
 ghost use Rattle.layout.specs.Text.{symbol_of, render, rendered, affix_text, negative_affixes, affixes_of, minimum_in, number_text, laid_out};
 
+use decimal::cut::{after, upto};
+use decimal::scan::{leading_zeros, trimmed_len};
 use pattern_reader::{Negative, Pattern, Span};
 use pattern_token::{Item, Mark};
-use symbols::Symbol;
+use symbols::{STANDARD, Symbol};
 
 // A number's affixes: whether the minus symbol stands before them, and where they stand in the
 // pattern.
@@ -25,15 +27,6 @@ pub struct Affixes {
     pub minus: bool,
     pub prefix: Span,
     pub suffix: Span,
-}
-
-fn less(a: usize, b: usize) -> usize
-    ensures { result ≡ a - b }
-{
-    if a < b {
-        return 0;
-    }
-    a - b
 }
 
 fn symbol_of(m: Mark) -> Symbol
@@ -51,16 +44,13 @@ fn symbol_of(m: Mark) -> Symbol
 fn append_symbol(out: &mut [u8], at: usize, house: &[u8], y: Symbol) -> usize
     ensures { Wrote out.old at (symbol_in house.now standard_record y) out.new result }
 {
-    area::append(out, at, symbols::find(house, &symbols::STANDARD, y))
+    area::append(out, at, symbols::find(house, &STANDARD, y))
 }
 
 fn append_if(out: &mut [u8], at: usize, on: bool, s: &[u8]) -> usize
     ensures { Wrote out.old at (if on then s.now else []) out.new result }
 {
-    if on {
-        return area::append(out, at, s);
-    }
-    at
+    if on { area::append(out, at, s) } else { at }
 }
 
 // What an item of an affix prints.
@@ -70,10 +60,7 @@ fn append_item(out: &mut [u8], at: usize, house: &[u8], t: Item) -> usize
     match t {
         Item::Text(b) => area::put(out, at, b),
         Item::Symbol(m) => append_symbol(out, at, house, symbol_of(m)),
-        Item::Place(_) => at,
-        Item::Quote => at,
-        Item::Semicolon => at,
-        Item::Reserved => at,
+        Item::Place(_) | Item::Quote | Item::Semicolon | Item::Reserved => at,
     }
 }
 
@@ -81,36 +68,13 @@ fn append_item(out: &mut [u8], at: usize, house: &[u8], t: Item) -> usize
 fn is_plain(b: u8) -> bool
     ensures { result ≡ is_plain b }
 {
-    if b == 32 {
-        return true;
-    }
-    if b == 36 {
-        return true;
-    }
-    if b < 70 {
-        return false;
-    }
-    if b == 0xC2 {
-        return false;
-    }
-    if b == 0xE2 {
-        return false;
-    }
-    true
+    matches!(b, b' ' | b'$' | b'F'..=0xC1 | 0xC3..=0xE1 | 0xE3..)
 }
 
 fn are_plain(s: &[u8]) -> bool
     ensures { result ≡ plain s.now }
 {
-    let mut i = 0;
-    while i < s.len() {
-        if is_plain(s[i]) {
-            i += 1;
-        } else {
-            return false;
-        }
-    }
-    true
+    s.iter().all(|b| is_plain(*b))
 }
 
 // What an affix prints.
@@ -118,9 +82,10 @@ fn append_affix(out: &mut [u8], at: usize, house: &[u8], s: &[u8]) -> usize
     ensures { Wrote out.old at (rendered (symbol_in house.now standard_record) (items s.now)) out.new result }
 {
     if are_plain(s) {
-        return area::append(out, at, s);
+        area::append(out, at, s)
+    } else {
+        append_items(out, at, house, s)
     }
-    append_items(out, at, house, s)
 }
 
 // The same, item by item.
@@ -131,6 +96,7 @@ fn append_items(out: &mut [u8], at: usize, house: &[u8], s: &[u8]) -> usize
     let mut number = false;
     let mut k = at;
     let mut i = 0;
+    // By index: the step is the token's width.
     while i < s.len() {
         let t = pattern_token::token_in(s, i, quoted, number);
         let item = t.item;
@@ -145,41 +111,28 @@ fn append_items(out: &mut [u8], at: usize, house: &[u8], s: &[u8]) -> usize
 fn append_part(out: &mut [u8], at: usize, house: &[u8], pattern: &[u8], p: Span) -> usize
     ensures { Wrote out.old at (affix_text (symbol_in house.now standard_record) pattern.now p) out.new result }
 {
-    let s = decimal::cut::after(pattern, p.start);
-    append_affix(out, at, house, decimal::cut::upto(s, p.len))
+    append_affix(out, at, house, upto(after(pattern, p.start), p.len))
 }
 
 // Whether a group symbol stands with so many digits to come.
 fn is_marked(primary: usize, secondary: usize, left: usize) -> bool
     ensures { result ≡ mark primary secondary left }
 {
-    if primary == 0 {
-        return false;
-    }
-    if left < primary {
-        return false;
-    }
-    if secondary == 0 {
-        return left - primary == 0;
-    }
-    (left - primary) % secondary == 0
+    primary != 0 && primary <= left && (left - primary).is_multiple_of(secondary)
 }
 
 // The primary size of groups among so many integer digits: 0 where they are too few to be grouped.
 fn primary_size(house: &[u8], primary: usize, digits: usize) -> usize
     ensures { result ≡ group_size (minimum_in (symbol_in house.now standard_record)) primary digits }
 {
-    if primary == 0 {
-        return 0;
+    if primary != 0
+        && primary <= digits
+        && symbols::minimum(house, &STANDARD) as usize <= digits - primary
+    {
+        primary
+    } else {
+        0
     }
-    if digits < primary {
-        return 0;
-    }
-    let minimum = symbols::minimum(house, &symbols::STANDARD) as usize;
-    if digits - primary < minimum {
-        return 0;
-    }
-    primary
 }
 
 // How a digit is spelled: as the byte that it is, while digit zero is ASCII's.
@@ -201,11 +154,10 @@ fn append_digits(
     ensures { Wrote out.old at (grouped zero_digit group.now primary secondary d.now) out.new result }
 {
     let mut k = at;
-    let mut i = 0;
-    while i < d.len() {
-        k = append_digit(out, k, d[i]);
-        i += 1;
-        k = append_if(out, k, is_marked(primary, secondary, d.len() - i), group);
+    for (i, b) in d.iter().enumerate() {
+        k = append_digit(out, k, *b);
+        let left = d.len() - (i + 1);
+        k = append_if(out, k, is_marked(primary, secondary, left), group);
     }
     k
 }
@@ -214,7 +166,7 @@ fn append_digits(
 fn append_fraction(out: &mut [u8], at: usize, point: &[u8], fraction: &[u8]) -> usize
     ensures { Wrote out.old at (pointed zero_digit point.now fraction.now) out.new result }
 {
-    let k = append_if(out, at, 0 < fraction.len(), point);
+    let k = append_if(out, at, !fraction.is_empty(), point);
     append_digits(out, k, b"", 0, 0, fraction)
 }
 
@@ -222,65 +174,43 @@ fn append_fraction(out: &mut [u8], at: usize, point: &[u8], fraction: &[u8]) -> 
 fn whole_shown(least: usize, most: usize, d: &[u8]) -> &[u8]
     ensures { result.now ≡ whole_digits least most d.now }
 {
-    let s = decimal::cut::upto(d, less(d.len(), most));
-    let zeros = decimal::scan::leading_zeros(s);
-    decimal::cut::after(s, decimal::num::fewer(zeros, less(s.len(), least)))
+    let s = upto(d, d.len().saturating_sub(most));
+    after(s, leading_zeros(s).min(s.len().saturating_sub(least)))
 }
 
 fn fraction_shown(least: usize, most: usize, d: &[u8]) -> &[u8]
     ensures { result.now ≡ fraction_digits least most d.now }
 {
-    let s = decimal::cut::after(d, less(d.len(), most));
-    decimal::cut::upto(
-        s,
-        decimal::num::further(least, decimal::scan::trimmed_len(s)),
-    )
+    let s = after(d, d.len().saturating_sub(most));
+    upto(s, least.max(trimmed_len(s)))
 }
 
 fn append_number(out: &mut [u8], at: usize, house: &[u8], p: Pattern, d: &[u8]) -> usize
     ensures { Wrote out.old at (number_text (symbol_in house.now standard_record) p d.now) out.new result }
 {
-    let group = symbols::find(house, &symbols::STANDARD, Symbol::Group);
+    let group = symbols::find(house, &STANDARD, Symbol::Group);
     let whole = whole_shown(p.least, p.most, d);
     let size = primary_size(house, p.primary, whole.len());
     let k = append_digits(out, at, group, size, p.secondary, whole);
-    let point = symbols::find(house, &symbols::STANDARD, Symbol::Decimal);
+    let point = symbols::find(house, &STANDARD, Symbol::Decimal);
     append_fraction(out, k, point, fraction_shown(p.fraction, p.most, d))
-}
-
-fn negative_affixes(p: Pattern) -> Affixes
-    ensures { result ≡ negative_affixes p p.negative }
-{
-    let prefix = p.prefix;
-    let suffix = p.suffix;
-    let negative = p.negative;
-    match negative {
-        Negative::MinusSymbol => Affixes {
-            minus: true,
-            prefix: prefix,
-            suffix: suffix,
-        },
-        Negative::Own(first, last) => Affixes {
-            minus: false,
-            prefix: first,
-            suffix: last,
-        },
-    }
 }
 
 // The affixes of a number that is negative or not.
 pub fn affixes_of(p: Pattern, negative: bool) -> Affixes
     ensures { result ≡ affixes_of p negative }
 {
-    if negative {
-        return negative_affixes(p);
-    }
-    let prefix = p.prefix;
-    let suffix = p.suffix;
-    Affixes {
-        minus: false,
-        prefix: prefix,
-        suffix: suffix,
+    match p.negative {
+        Negative::Own(prefix, suffix) if negative => Affixes {
+            minus: false,
+            prefix,
+            suffix,
+        },
+        _ => Affixes {
+            minus: negative,
+            prefix: p.prefix,
+            suffix: p.suffix,
+        },
     }
 }
 
@@ -288,9 +218,10 @@ fn append_minus(out: &mut [u8], house: &[u8], on: bool) -> usize
     ensures { Wrote out.old 0 (if on then (symbol_in house.now standard_record (Symbol.Minus)) else []) out.new result }
 {
     if on {
-        return append_symbol(out, 0, house, Symbol::Minus);
+        append_symbol(out, 0, house, Symbol::Minus)
+    } else {
+        0
     }
-    0
 }
 
 // The text of the digits d under the pattern p, which was read of the bytes `pattern`, with the
@@ -305,10 +236,8 @@ pub fn write_text(
 ) -> usize
     ensures { Wrote out.old 0 (laid_out (symbol_in house.now standard_record) pattern.now p a d.now) out.new result }
 {
-    let prefix = a.prefix;
-    let suffix = a.suffix;
     let first = append_minus(out, house, a.minus);
-    let second = append_part(out, first, house, pattern, prefix);
+    let second = append_part(out, first, house, pattern, a.prefix);
     let third = append_number(out, second, house, p, d);
-    append_part(out, third, house, pattern, suffix)
+    append_part(out, third, house, pattern, a.suffix)
 }

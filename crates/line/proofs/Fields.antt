@@ -1,27 +1,36 @@
 -- The job of a line, by its letter and the lengths of its fields, is that of its fields.
 use mathlib.Core.Path.{◌≡◌, refl, sym, ◌∙◌}
-use mathlib.Core.Bool.{Bool, true, false}
+use mathlib.Core.Bool.{Bool, true, false, not}
 use mathlib.Core.List.{List, [], ◌∷◌}
-use Prim.Native.Nat.{ℕ, suc, ◌+◌, ◌≤◌, ◌<◌}
+use Prim.Native.Nat.{ℕ, suc, ◌+◌, ◌-◌, ◌≤◌, ◌<◌}
+use Prim.Native.Nat.compare
 use native.Mathlib.Omega.{arith}
 use lib.Dec.{ltb, eqb}
 use borrow.Author.Tests.{ltb-true, ltb-false, lt-ltb, le-ltb, eqb-true, eqb-false, eq-eqb, ne_eqb}
-use lib.ListN.{length, get_or, take, drop}
+use lib.ListN.{length, get_or, take, drop, length-drop}
+use lib.Seq.{take_all}
 use Rattle.decimal.specs.Split.{until, on_first, split}
 use Rattle.decimal.proofs.Choices.{tested, both_false}
 use Rattle.decimal.proofs.Splits.{until_le, split_one, split_first}
+use Rattle.std.specs.Prelude.{nat_eq}
+use Rattle.std.specs.List.{list_any}
 use Rattle.line.specs.Jobs.{job_in, job_of, job_at, job_with, last_field}
 use Rattle.line.specs.Jobs.Job.{none}
 use Rattle.line.specs.declared.JobCut.{JobCut}
+
+-- what a slice holds from a place on
+pub from_place : (s : List ℕ) (k : ℕ) → take (length s - k) (drop k s) ≡ drop k s
+from_place s k = take_all (length s - k) (drop k s) (omega (arith, length-drop k s))
+
+-- no TAB stands in a text whose first part is the whole
+pub no_more_tabs : (s : List ℕ) → not (list_any (λ (x : ℕ). nat_eq x 9) s) ≡ eqb (until 9 s) (length s)
+no_more_tabs [] = refl
+no_more_tabs (x ∷ s) = tested (eqb x 9) (λ k. rw (k, ne_eqb 0 (suc (length s)) (λ z. omega arith))) (λ k. rw (k, compare.suc-suc) (no_more_tabs s))
 
 -- a first field that is no single letter makes no job
 no_letter : (f : List ℕ) (fs : List (List ℕ)) → (length f ≡ 1 → ⊥) → job_in (f ∷ fs) ≡ none
 no_letter f fs h =
     rw (ne_eqb (length f) 1 h, both_false (eqb (suc (length fs)) 3), both_false (eqb (suc (length fs)) 2))
-
-long_first : (a b : ℕ) (fs : List (List ℕ)) → job_in (on_first a (on_first b fs)) ≡ none
-long_first a b [] = refl
-long_first a b (p ∷ ps) = no_letter (a ∷ b ∷ p) ps (λ e. omega arith)
 
 -- more than three fields make none either
 many : (a : ℕ) (x y z : List ℕ) (fs : List (List ℕ)) → job_in ((a ∷ []) ∷ x ∷ y ∷ z ∷ fs) ≡ none
@@ -34,13 +43,6 @@ pub short_line : (line : List ℕ) → length line < 2 → job_of line ≡ none
 short_line [] h = refl
 short_line (a ∷ []) h = tested (eqb a 9) (λ k. rw k) (λ k. rw k)
 short_line (a ∷ b ∷ s) h = absurd (omega arith)
-
-pub no_tab : (line : List ℕ) → 2 ≤ length line → (get_or line 1 0 ≡ 9 → ⊥) → job_of line ≡ none
-no_tab [] h t = absurd (omega arith)
-no_tab (a ∷ []) h t = absurd (omega arith)
-no_tab (a ∷ b ∷ s) h t =
-    tested (eqb a 9) (λ k. rw k (no_letter [] (split 9 (b ∷ s)) (λ e. omega arith)))
-    (λ k. rw (k, ne_eqb b 9 t) (long_first a b (split 9 s)))
 
 -- ---- a letter, a TAB and the fields behind it
 

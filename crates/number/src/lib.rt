@@ -11,7 +11,7 @@ ghost use Rattle.number.specs.Limits.{max_exponent};
 ghost use Rattle.number.specs.Reading.{parts_from, after_zero, sized, judge};
 
 use answer::{NumberRow, Refusal};
-use decimal::{DigitValue, Places};
+use decimal::{DigitValue, Places, cut, scan, value};
 
 pub const MAX_BYTES: usize = 64;
 
@@ -43,10 +43,7 @@ pub fn refuse(row: NumberRow) -> Result<Number, Refusal>
 fn after_zero(whole: &[u8], exponent: &[u8]) -> bool
     ensures { result ≡ after_zero whole.now exponent.now }
 {
-    if exponent.len() == 0 {
-        return false;
-    }
-    decimal::value::value_of(whole) == 0
+    !exponent.is_empty() && value::value_of(whole) == 0
 }
 
 // The number with its point shifted e places to the right.
@@ -55,22 +52,22 @@ fn shifted(negative: bool, whole: &[u8], fraction: &[u8], e: u64) -> Result<Numb
     ensures { result ≡ sized negative whole.now fraction.now e }
 {
     let places = e as usize;
-    let i = decimal::value::value_first(decimal::value::value_of(whole), places, fraction);
+    let i = value::value_first(value::value_of(whole), places, fraction);
     if INTEGER_LIMIT <= i {
         return refuse(NumberRow::IntegerTooLong);
     }
-    let rest = decimal::cut::after(fraction, places);
+    let rest = cut::after(fraction, places);
     let v = rest.len();
     if MAX_PLACES < v {
         return refuse(NumberRow::FractionTooLong);
     }
-    let w = decimal::scan::trimmed_len(rest);
-    let f = decimal::value::value_of(rest);
-    let t = decimal::value::value_of(decimal::cut::upto(rest, w));
+    let w = scan::trimmed_len(rest);
+    let f = value::value_of(rest);
+    let t = value::value_of(cut::upto(rest, w));
     Ok(Number {
-        negative: negative,
+        negative,
         e: e as u8,
-        i: i,
+        i,
         v: Places(v as u8),
         f: DigitValue(f),
         w: Places(w as u8),
@@ -79,16 +76,11 @@ fn shifted(negative: bool, whole: &[u8], fraction: &[u8], e: u64) -> Result<Numb
 }
 
 // The parts are told: refusals 12 to 15, or the number.
-pub fn parted(
-    negative: bool,
-    whole: &[u8],
-    fraction: &[u8],
-    exponent: &[u8],
-) -> Result<Number, Refusal>
+pub fn parted(negative: bool, whole: &[u8], fraction: &[u8], exponent: &[u8]) -> Result<Number, Refusal>
     requires { AllDigits whole.now × AllDigits fraction.now }
     ensures { result ≡ judge (parts_from negative whole.now fraction.now exponent.now) }
 {
-    let e = decimal::value::value_of(exponent);
+    let e = value::value_of(exponent);
     if MAX_EXPONENT < e {
         return refuse(NumberRow::ExponentTooLarge);
     }

@@ -2,13 +2,12 @@
 use mathlib.Core.Path.{◌≡◌, refl, sym, ap, ◌∙◌}
 use mathlib.Core.Bool.{Bool, true, false}
 use mathlib.Core.List.{List, [], ◌∷◌}
-use Prim.Native.Nat.{ℕ, zero, suc, ◌+◌, ◌-◌, ◌≤◌, ◌<◌}
+use Prim.Native.Nat.{ℕ, zero, suc, ◌-◌}
 use native.Mathlib.Omega.{arith}
-use native.Mathlib.Numerals.{add-one}
 use borrow.Author.Tests.{eqb-true}
 use lib.Dec.{eqb}
-use lib.ListN.{length, get_or, drop, drop_of_length-le}
-use lib.Seq.{drop-cons}
+use lib.ListN.{length}
+use Rattle.std.specs.List.{list_any}
 use Rattle.std.specs.Prelude.{if◌then◌else◌}
 use Rattle.decimal.specs.Split.{until}
 use Rattle.decimal.proofs.Choices.{choice, tested, not_both}
@@ -17,7 +16,7 @@ use Rattle.pattern_token.specs.declared.Mark.TheVariants.{Minus, Plus, Percent, 
 use Rattle.pattern_token.specs.declared.Item.{Item}
 use Rattle.pattern_token.specs.declared.Item.TheVariants.{Symbol}
 use Rattle.pattern_token.specs.declared.Token.{Token}
-use Rattle.pattern_token.specs.Items.{starts, is_place, is_reserved, bare_of, apostrophe, permille, currency, token_at, quoted_after, is_number, items_from}
+use Rattle.pattern_token.specs.Items.{starts, is_place, is_reserved, bare_of, apostrophe, permille, currency, token_at, quoted_after, is_number, items_from, items}
 use Rattle.pattern_affix.specs.Affixes.{reserves, any_reserved, mark_number, weight, marks}
 use Rattle.pattern_affix.specs.Firsts.{may_reserve, free, mark_byte}
 
@@ -62,15 +61,9 @@ items_free q n zero (b ∷ s) h =
     let t = token_at q n (b ∷ s) in
     rw (token_free q n b s e) (items_free (quoted_after q t.item) (is_number t.item) (t.width - 1) s (rw e at h)))
 
--- the scan for their bytes
-pub free_more : (s : List ℕ) (i : ℕ) → i < length s → may_reserve (get_or s i 0) ≡ false → free (drop i s) ≡ free (drop (i + 1) s)
-free_more s i h e = rw (add-one, drop-cons s i 0 h, e)
-
-pub free_end : (s : List ℕ) (i : ℕ) → i < length s → may_reserve (get_or s i 0) ≡ true → free (drop i s) ≡ false
-free_end s i h e = rw (drop-cons s i 0 h, e)
-
-pub free_out : (s : List ℕ) (i : ℕ) → length s ≤ i → free (drop i s) ≡ true
-free_out s i h = rw (drop_of_length-le s h)
+pub free_any : (s : List ℕ) → list_any may_reserve s ≡ false → free s ≡ true
+free_any [] h = refl
+free_any (b ∷ s) h = tested (may_reserve b) (λ e. not_both (rw e) h) (λ e. rw e (free_any s (rw e at h)))
 
 -- ---- marks
 
@@ -113,8 +106,12 @@ token_other q n m b s h =
     choice P (starts permille (b ∷ s)) (λ k. mark_other Permille m b (starts_first 0xE2 b (0x80 ∷ 0xB0 ∷ []) s k) h) (λ _.
     choice P (starts currency (b ∷ s)) (λ _. refl) (λ _. bare_other n m b h)))))
 
+until_none : (b : ℕ) (s : List ℕ) → list_any (λ (x : ℕ). eqb x b) s ≡ false → until b s ≡ length s
+until_none b [] h = refl
+until_none b (x ∷ s) h = tested (eqb x b) (λ e. not_both (rw e) h) (λ e. rw e (ap suc (until_none b s (rw e at h))))
+
 -- a text without the mark's byte
-pub marks_none : (m : Mark) (q n : Bool) (k : ℕ) (s : List ℕ) → until (mark_byte m) s ≡ length s → marks m (items_from q n k s) ≡ 0
+marks_none : (m : Mark) (q n : Bool) (k : ℕ) (s : List ℕ) → until (mark_byte m) s ≡ length s → marks m (items_from q n k s) ≡ 0
 marks_none m q n k [] h = refl
 marks_none m q n (suc k) (b ∷ s) h =
     tested (eqb b (mark_byte m)) (λ e. absurd (some (rw e at h))) (λ e. marks_none m q n k s (less (rw e at h)))
@@ -135,3 +132,6 @@ marks_none m q n zero (b ∷ s) h =
 
     less : suc (until (mark_byte m) s) ≡ suc (length s) → until (mark_byte m) s ≡ length s
     less g = omega arith
+
+pub no_marks : (m : Mark) (s : List ℕ) → list_any (λ (x : ℕ). eqb x (mark_byte m)) s ≡ false → marks m (items s) ≡ 0
+no_marks m s h = marks_none m false false 0 s (until_none (mark_byte m) s h)

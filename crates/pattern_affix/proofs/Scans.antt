@@ -5,14 +5,20 @@ use mathlib.Core.List.{List, [], ◌∷◌}
 use Prim.Native.Nat.{ℕ, zero, suc, ◌+◌, ◌-◌, ◌≤◌, ◌<◌}
 use native.Mathlib.Omega.{arith}
 use lib.ListN.{length, drop, drop_of_length-le, length-drop}
+use lib.Dec.{eqb}
 use lib.Seq.{drop-drop}
+use borrow.Author.Tests.{eqb-true, eqb-false}
+use Rattle.std.specs.List.{filter, list_any}
+use Rattle.decimal.proofs.Choices.{tested}
+use Rattle.pattern_token.specs.declared.Item.{Item}
+use Rattle.pattern_token.specs.declared.Item.TheVariants.{Text, Symbol, Place, Quote, Semicolon, Reserved}
 use Rattle.pattern_token.specs.declared.Mark.{Mark}
 use Rattle.pattern_token.specs.declared.Token.{Token}
 use Rattle.pattern_affix.specs.declared.Affix.{Affix}
 use Rattle.pattern_token.specs.Items.{token_at, quoted_after, is_number, items_from}
-use Rattle.pattern_affix.specs.Affixes.{reserves, any_reserved, ends_affix, longer, affix_from, affix, weight, marks}
+use Rattle.pattern_affix.specs.Affixes.{reserves, any_reserved, ends_affix, longer, affix_from, affix, mark_number, weight, marks}
 use Rattle.decimal.proofs.Runs.{drop_some}
-use Rattle.pattern_token.proofs.ItemLaws.{token_fits, items_step}
+use Rattle.pattern_token.proofs.ItemLaws.{token_fits}
 
 -- an affix by so many bytes longer
 abbrev pub grown : ℕ → Affix → Affix
@@ -115,20 +121,36 @@ module _ (s : List ℕ) (i : ℕ) (q n : Bool) (h : i < length s) (t : Token) (e
         quotes = rw (eq, en) (sym (ap (λ (a : Affix). a.closed) step) ∙ w.quotes);
       }
 
-  pub reserved_again : (a : Bool) → reserves t.item ≡ false → any_reserved (items_from q n 0 (drop i s)) ≡ a
-      → any_reserved (items_from q' n' 0 (drop (i + t.width) s)) ≡ a
-  reserved_again a f k = rw (eq, en) (sym (ap any_reserved (items_step s i q n h t e) ∙ rw f) ∙ k)
+-- ---- the items, one after the other
 
-  pub marks_again : (m : Mark) (c a : ℕ) → c + marks m (items_from q n 0 (drop i s)) ≡ a
-      → c + weight m t.item + marks m (items_from q' n' 0 (drop (i + t.width) s)) ≡ a
-  marks_again m c a k = rw (eq, en) (omega (arith, ap (marks m) (items_step s i q n h t e)))
+pub reserved_is : (ts : List Item) → list_any reserves ts ≡ any_reserved ts
+reserved_is [] = refl
+reserved_is (t ∷ ts) = tested (reserves t) (λ k. rw k) (λ k. rw k (reserved_is ts))
 
-pub reserved_end : (s : List ℕ) (i : ℕ) (q n : Bool) → i < length s → (t : Token) → t ≡ token_at q n (drop i s) → reserves t.item ≡ true
-    → any_reserved (items_from q n 0 (drop i s)) ≡ true
-reserved_end s i q n h t e f = ap any_reserved (items_step s i q n h t e) ∙ rw f
+weight_le : (m : Mark) (t : Item) → weight m t ≤ 1
+weight_le m (Symbol k) = tested (eqb (mark_number k) (mark_number m)) (λ e. rw e (omega arith)) (λ e. rw e (omega arith))
+weight_le m (Text b) = omega arith
+weight_le m (Place b) = omega arith
+weight_le m Quote = omega arith
+weight_le m Semicolon = omega arith
+weight_le m Reserved = omega arith
 
-pub reserved_out : (s : List ℕ) (i : ℕ) (q n : Bool) → length s ≤ i → any_reserved (items_from q n 0 (drop i s)) ≡ false
-reserved_out s i q n h = rw (drop_of_length-le s h)
+-- the item is the mark
+abbrev pub is_mark : Mark → Item → Bool
+is_mark m t = eqb (weight m t) 1
 
-pub marks_out : (m : Mark) (s : List ℕ) (i : ℕ) (q n : Bool) → length s ≤ i → marks m (items_from q n 0 (drop i s)) ≡ 0
-marks_out m s i q n h = rw (drop_of_length-le s h)
+pub marks_are : (m : Mark) (ts : List Item) → (length (filter (is_mark m) ts) ≡ marks m ts) × (marks m ts ≤ length ts)
+marks_are m [] = (refl, omega arith)
+marks_are m (t ∷ ts) =
+    let w = marks_are m ts in
+    tested (is_mark m t)
+    (λ k. let e = eqb-true (weight m t) 1 k in rw k (omega arith, omega arith))
+    (λ k. let e : weight m t ≡ 0 = omega (arith, eqb-false (weight m t) 1 k, weight_le m t) in rw k (omega arith, omega arith))
+
+-- there are no more items than bytes
+pub items_le : (q n : Bool) (k : ℕ) (s : List ℕ) → length (items_from q n k s) ≤ length s
+items_le q n k [] = omega arith
+items_le q n zero (b ∷ s) =
+    let t = token_at q n (b ∷ s) in
+    omega (arith, items_le (quoted_after q t.item) (is_number t.item) (t.width - 1) s)
+items_le q n (suc k) (b ∷ s) = omega (arith, items_le q n k s)

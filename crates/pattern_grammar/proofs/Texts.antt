@@ -48,7 +48,7 @@ read_asks s w p e =
     refused_or_read s (read_plain s p e).0 w (λ row v. not_read row p (sym (verdict_given s v) ∙ e))
     (λ r m o. record { past = r; few = m; same = o; is = pattern_same (sym (verdict_given s (read w r m o)) ∙ e) })
   where
-    pattern_same : {q : Pattern} → Ok q ≡ Ok p → q ≡ p
+    pattern_same : {q : Pattern} → ◌≡◌ {A = Result Pattern Refusal} (Ok q) (Ok p) → q ≡ p
     pattern_same {q} k = cc
 
 -- so a pattern that is read asks for one thing only

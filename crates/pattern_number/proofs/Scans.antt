@@ -1,43 +1,70 @@
--- Laws of the scans of a number part: one byte more of each, and its end.
+-- Laws of the scans of a number part: what the library's words say of its bytes is what the definitions say.
 use mathlib.Core.Path.{◌≡◌, refl, ap, ◌∙◌}
-use mathlib.Core.Bool.{Bool, true, false}
-use mathlib.Core.List.{List, [], ◌∷◌, ◌++◌}
+use mathlib.Core.Bool.{Bool, true, false, not, cond, ◌&&◌}
+use mathlib.Core.List.{List, [], ◌∷◌, ◌++◌, reverse}
 use Prim.Native.Nat.{ℕ, suc, ◌+◌, ◌≤◌, ◌<◌}
 use native.Mathlib.Omega.{arith}
-use native.Mathlib.Nat.{add-zero}
-use native.Mathlib.Numerals.{add-one}
-use borrow.Author.Tests.{eq-eqb, ne_eqb, lt-ltb}
-use lib.Dec.{eqb}
-use lib.ListN.{length, get_or, take, drop, drop_of_length-le, length-drop}
-use lib.Seq.{drop-cons, take-suc, length-take-le, get_or-drop}
+use borrow.Author.Tests.{eqb-true, eqb-false, eq-eqb, ne_eqb, lt-ltb, ltb-true, ltb-false}
+use lib.Dec.{eqb, ltb}
+use lib.ListN.{length, drop}
+use Rattle.std.specs.Prelude.{Option, None, Some, MatchOption}
+use Rattle.std.specs.List.{filter, list_all, list_any, zip, prefix_len, position_or_len}
+use Rattle.std.proofs.lemmas.List.{reverse-reverse, length-reverse}
+use Rattle.std.proofs.lemmas.Grind.{reverse_onto}
+use Rattle.decimal.specs.Digits.{is_digit}
 use Rattle.decimal.proofs.Choices.{tested}
-use Rattle.pattern_number.specs.Shape.{between, count, misplaced, seen_after, ordered, bad_comma, apart, last, primary_of, front, secondary_of}
+use Rattle.pattern_number.specs.Shape.{between, count, ordered, is_hash, apart, last}
 
 -- ---- counts
 
-pub count_cons : (low high b : ℕ) (s : List ℕ) → count low high (b ∷ s) ≡ count low high (b ∷ []) + count low high s
-count_cons low high b s = tested (between low high b) (λ e. rw e (omega arith)) (λ e. rw e (omega arith))
-
-pub count_step : (low high : ℕ) (s : List ℕ) (i : ℕ) → i < length s
-    → count low high (drop i s) ≡ count low high (get_or s i 0 ∷ []) + count low high (drop (i + 1) s)
-count_step low high s i h = rw (add-one, drop-cons s i 0 h) (count_cons low high (get_or s i 0) (drop (suc i) s))
-
-pub count_out : (low high : ℕ) (s : List ℕ) (i : ℕ) → length s ≤ i → count low high (drop i s) ≡ 0
-count_out low high s i h = rw (drop_of_length-le s h)
+pub counted_in : (low high : ℕ) (s : List ℕ) (n : ℕ) → n ≡ length (filter (between low high) s) → (n ≡ count low high s) × (n ≤ length s)
+counted_in low high s n e = let w = counts s in (e ∙ w.0, omega (arith, w.1))
+  where
+    counts : (s : List ℕ) → (length (filter (between low high) s) ≡ count low high s) × (count low high s ≤ length s)
+    counts [] = (refl, omega arith)
+    counts (b ∷ s) =
+        let w = counts s in
+        tested (between low high b) (λ k. rw k (ap suc w.0, omega (arith, w.1))) (λ k. rw k (w.0, omega (arith, w.1)))
 
 -- ---- `#` first, then digits
 
-pub ordered_end : (q : Bool) (s : List ℕ) (i : ℕ) → i < length s → misplaced q (get_or s i 0) ≡ true → ordered q (drop i s) ≡ false
-ordered_end q s i h e = rw (drop-cons s i 0 h, e)
+abbrev pub no_comma : ℕ → Bool
+no_comma b = not (eqb b 44)
 
-pub ordered_more : (q : Bool) (s : List ℕ) (i : ℕ) → i < length s → misplaced q (get_or s i 0) ≡ false
-    → ordered q (drop i s) ≡ ordered (seen_after q (get_or s i 0)) (drop (i + 1) s)
-ordered_more q s i h e = rw (add-one, drop-cons s i 0 h, e)
+ordered_digits : (s : List ℕ) → list_all is_digit (filter no_comma s) ≡ ordered true s
+ordered_digits [] = refl
+ordered_digits (b ∷ s) =
+    tested (eqb b 44) (λ k. rw k (ordered_digits s))
+    (λ k. tested (eqb b 35) (λ l. rw (k, l, eqb-true b 35 l))
+    (λ l. tested (is_digit b) (λ d. rw (k, l, d) (ordered_digits s)) (λ d. rw (k, l, d))))
 
-pub ordered_out : (q : Bool) (s : List ℕ) (i : ℕ) → length s ≤ i → ordered q (drop i s) ≡ true
-ordered_out q s i h = rw (drop_of_length-le s h)
+drop_one : (n b : ℕ) (s : List ℕ) → drop (1 + n) (b ∷ s) ≡ drop n s
+drop_one n b s =
+    let e : 1 + n ≡ suc n = omega arith in
+    rw e
 
--- ---- the last b, seen from the end
+pub ordered_is : (s : List ℕ) → list_all is_digit (drop (prefix_len is_hash (filter no_comma s)) (filter no_comma s)) ≡ ordered false s
+ordered_is [] = refl
+ordered_is (b ∷ s) =
+    tested (eqb b 44) (λ k. rw k (ordered_is s))
+    (λ k. tested (eqb b 35) (λ l. rw (k, l, eqb-true b 35 l, drop_one) (ordered_is s))
+    (λ l. tested (is_digit b) (λ d. rw (k, l, d) (ordered_digits s)) (λ d. rw (k, l, d))))
+
+-- ---- commas apart
+
+abbrev pub two_commas : ℕ × ℕ → Bool
+two_commas p = eqb p.0 44 && eqb p.1 44
+
+pub apart_is : (s : List ℕ) → not (list_any two_commas (zip s (drop 1 s ++ (44 ∷ [])))) ≡ apart s
+apart_is [] = refl
+apart_is (b ∷ []) = tested (eqb b 44) (λ k. rw k) (λ k. rw k)
+apart_is (b ∷ c ∷ s) =
+    let z = ne_eqb (suc (length s)) 0 (λ k. omega arith) in
+    tested (eqb b 44)
+    (λ k. tested (eqb c 44) (λ l. rw (k, z, l)) (λ l. rw (k, z, l) (rw l at (apart_is (c ∷ s)))))
+    (λ k. rw k (apart_is (c ∷ s)))
+
+-- ---- the last comma, seen from the end
 
 last_same : (b : ℕ) (s : List ℕ) → last b (s ++ (b ∷ [])) ≡ suc (length s)
 last_same b [] = rw (eq-eqb b b refl)
@@ -47,47 +74,27 @@ last_other : (b : ℕ) (s : List ℕ) (x : ℕ) → (x ≡ b → ⊥) → last b
 last_other b [] x h = rw (ne_eqb x b h)
 last_other b (y ∷ s) x h = rw (last_other b s x h)
 
-pub last_found : (b : ℕ) (s : List ℕ) (n m : ℕ) → n ≡ suc m → m < length s → get_or s m 0 ≡ b → last b (take n s) ≡ n
-last_found b s n m e h g = rw (e, take-suc s m 0 h, g) (last_same b (take m s) ∙ ap suc (length-take-le m s (omega arith)))
+abbrev pub is_comma : ℕ → Bool
+is_comma b = eqb b 44
 
-pub last_less : (b : ℕ) (s : List ℕ) (n m : ℕ) → n ≡ suc m → m < length s → (get_or s m 0 ≡ b → ⊥) → last b (take n s) ≡ last b (take m s)
-last_less b s n m e h g = rw (e, take-suc s m 0 h) (last_other b (take m s) (get_or s m 0) g)
+-- how many bytes stand behind it
+abbrev pub behind : List ℕ → ℕ
+behind s = position_or_len is_comma (reverse s)
 
-pub last_none : (b : ℕ) (s : List ℕ) (n : ℕ) → n ≡ 0 → last b (take n s) ≡ 0
-last_none b s n e = rw e
+last_reverse : (r : List ℕ) → last 44 (reverse r) + position_or_len is_comma r ≡ length r
+last_reverse [] = refl
+last_reverse (x ∷ r) =
+    let e : reverse (x ∷ r) ≡ reverse r ++ (x ∷ []) = reverse_onto r x [] in
+    rw e
+    (tested (eqb x 44)
+    (λ k. rw (k, eqb-true x 44 k, last_same 44 (reverse r), length-reverse r) (omega arith))
+    (λ k. rw (k, last_other 44 (reverse r) x (eqb-false x 44 k)) (omega (arith, last_reverse r))))
 
--- ---- commas apart
-
-pub apart_more : (s : List ℕ) (i : ℕ) → i < length s → bad_comma (get_or s i 0) (drop (i + 1) s) ≡ false → apart (drop i s) ≡ apart (drop (i + 1) s)
-apart_more s i h e =
-    let f : bad_comma (get_or s i 0) (drop (suc i) s) ≡ false = rw add-one at e in
-    rw (add-one, drop-cons s i 0 h, f)
-
-pub apart_end : (s : List ℕ) (i : ℕ) → i < length s → bad_comma (get_or s i 0) (drop (i + 1) s) ≡ true → apart (drop i s) ≡ false
-apart_end s i h e =
-    let f : bad_comma (get_or s i 0) (drop (suc i) s) ≡ true = rw add-one at e in
-    rw (drop-cons s i 0 h, f)
-
-pub apart_out : (s : List ℕ) (i : ℕ) → length s ≤ i → apart (drop i s) ≡ true
-apart_out s i h = rw (drop_of_length-le s h)
-
-pub not_bad_comma : (s : List ℕ) (i : ℕ) → (get_or s i 0 ≡ 44 → ⊥) → false ≡ bad_comma (get_or s i 0) (drop (i + 1) s)
-not_bad_comma s i e = rw (ne_eqb _ _ e)
-
-pub bad_comma_last : (s : List ℕ) (i : ℕ) → get_or s i 0 ≡ 44 → length s ≤ i + 1 → true ≡ bad_comma (get_or s i 0) (drop (i + 1) s)
-bad_comma_last s i e h =
-    let z : length (drop (i + 1) s) ≡ 0 = omega (arith, length-drop (i + 1) s) in
-    rw (eq-eqb _ _ e, eq-eqb _ _ z)
-
-pub bad_comma_next : (s : List ℕ) (i : ℕ) → get_or s i 0 ≡ 44 → i + 1 < length s → eqb (get_or s (i + 1) 0) 44 ≡ bad_comma (get_or s i 0) (drop (i + 1) s)
-bad_comma_next s i e h =
-    let z : length (drop (i + 1) s) ≡ 0 → ⊥ = λ k. omega (arith, length-drop (i + 1) s) in
-    rw (eq-eqb _ _ e, ne_eqb _ _ z, get_or-drop, add-zero)
-
--- ---- the secondary group: with one comma, and with more
-
-pub secondary_same : (w : List ℕ) → (last 44 w ≡ 0 → ⊥) → last 44 (front w) ≡ 0 → primary_of w ≡ secondary_of w
-secondary_same w h k = rw (ne_eqb _ _ h, eq-eqb _ _ k)
-
-pub secondary_front : (w : List ℕ) → (last 44 w ≡ 0 → ⊥) → (last 44 (front w) ≡ 0 → ⊥) → primary_of (front w) ≡ secondary_of w
-secondary_front w h k = rw (ne_eqb _ _ h, ne_eqb _ _ k)
+pub last_from : (s : List ℕ) (r : Option ℕ) → r ≡ cond (ltb (behind s) (length (reverse s))) (Some (behind s)) None
+    → MatchOption r (last 44 s ≡ 0) (λ n. (0 < last 44 s) × (last 44 s + n ≡ length s))
+last_from s r e =
+    let f : last 44 s + behind s ≡ length s = rw (reverse-reverse s, length-reverse s) at (last_reverse (reverse s)) in
+    let l = length-reverse s in
+    tested (ltb (behind s) (length (reverse s)))
+    (λ k. let h = ltb-true (behind s) (length (reverse s)) k in rw (e, k) (omega arith, f))
+    (λ k. let h = ltb-false (behind s) (length (reverse s)) k in rw (e, k) (omega arith))

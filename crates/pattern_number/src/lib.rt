@@ -3,8 +3,8 @@
 // The entry is read_part. specs/Shape.antt says what is read of which bytes.
 #![tactic(auto)]
 
-ghost use Rattle.std.specs.Prelude.{◌≡◌, false, [], ◌∷◌, ◌+◌, ◌-◌, ◌≤◌, ◌<◌, min, length, get_or, drop};
-ghost use Rattle.pattern_number.specs.Shape.{between, count, misplaced, seen_after, ordered, bad_comma, apart, whole_fits, hashes, fraction_fits, number_fits, last, primary_of, secondary_of, unit, units_from, step_of, shape_of, step_cap, capped};
+ghost use Rattle.std.specs.Prelude.{◌≡◌, false, ◌+◌, ◌≤◌, ◌<◌, min, length, MatchOption};
+ghost use Rattle.pattern_number.specs.Shape.{count, ordered, apart, whole_fits, hashes, fraction_fits, number_fits, last, primary_of, secondary_of, unit, step_of, shape_of, step_cap, capped};
 
 use decimal::value::digit_value;
 use decimal::{cut, scan};
@@ -26,123 +26,43 @@ pub struct Shape {
     pub step: u64,
 }
 
-// 1 where b is from low to high.
-fn counted(low: u8, high: u8, b: u8) -> usize
-    ensures { (result ≡ count low high (b ∷ [])) × (result ≤ 1) }
-{
-    if b < low {
-        return 0;
-    }
-    if high < b {
-        return 0;
-    }
-    1
-}
-
 // How many bytes of s are from low to high.
 fn count_in(s: &[u8], low: u8, high: u8) -> usize
     ensures { (result ≡ count low high s.now) × (result ≤ length s.now) }
 {
-    let mut n = 0;
-    let mut i = 0;
-    while i < s.len() {
-        n += counted(low, high, s[i]);
-        i += 1;
-    }
-    n
-}
-
-fn is_misplaced(seen: bool, b: u8) -> bool
-    ensures { result ≡ misplaced seen b }
-{
-    if b == 44 {
-        return false;
-    }
-    if b == 35 {
-        return seen;
-    }
-    !scan::is_digit(b)
-}
-
-fn seen_after(seen: bool, b: u8) -> bool
-    ensures { result ≡ seen_after seen b }
-{
-    if b == 44 {
-        return seen;
-    }
-    scan::is_digit(b)
+    s.iter().filter(|b| low <= **b && **b <= high).count()
 }
 
 // Whether `#` stand first in s, then digits, commas anywhere.
 fn is_ordered(s: &[u8]) -> bool
     ensures { result ≡ ordered false s.now }
 {
-    let mut seen = false;
-    let mut i = 0;
-    while i < s.len() {
-        if is_misplaced(seen, s[i]) {
-            return false;
-        }
-        seen = seen_after(seen, s[i]);
-        i += 1;
-    }
-    true
+    s.iter()
+        .filter(|b| **b != b',')
+        .skip_while(|b| **b == b'#')
+        .all(|b| scan::is_digit(*b))
 }
 
-// Whether the comma at a place of s, if one stands there, is the last byte or adjacent to another.
-fn is_bad_comma(s: &[u8], at: usize) -> bool
-    requires { at < length s.now }
-    ensures { result ≡ bad_comma (get_or s.now at 0) (drop (at + 1) s.now) }
-{
-    if s[at] != 44 {
-        return false;
-    }
-    let next = at + 1;
-    if s.len() <= next {
-        return true;
-    }
-    s[next] == 44
-}
-
-// Whether no comma of s is last, or adjacent to another.
+// Whether no comma of s is last, or adjacent to another: with one more comma behind s, none is
+// followed by another.
 fn are_apart(s: &[u8]) -> bool
     ensures { result ≡ apart s.now }
 {
-    let mut i = 0;
-    while i < s.len() {
-        if is_bad_comma(s, i) {
-            return false;
-        }
-        i += 1;
-    }
-    true
+    let next = s.iter().skip(1).chain(b",");
+    !s.iter().zip(next).any(|(a, b)| *a == b',' && *b == b',')
 }
 
 fn whole_fits(s: &[u8]) -> bool
     ensures { result ≡ whole_fits s.now }
 {
-    if cut::begins_with(s, 44) {
-        return false;
-    }
-    if are_apart(s) {
-        return is_ordered(s);
-    }
-    false
+    !cut::begins_with(s, b',') && are_apart(s) && is_ordered(s)
 }
 
 // How many `#` s begins with.
 fn hash_run(s: &[u8]) -> usize
     ensures { (result ≡ hashes s.now) × (result ≤ length s.now) }
 {
-    let mut i = 0;
-    while i < s.len() {
-        if s[i] == 35 {
-            i += 1;
-        } else {
-            return i;
-        }
-    }
-    i
+    s.iter().take_while(|b| **b == b'#').count()
 }
 
 fn fraction_fits(s: &[u8]) -> bool
@@ -152,116 +72,68 @@ fn fraction_fits(s: &[u8]) -> bool
     n + hash_run(cut::after(s, n)) == s.len()
 }
 
-// How many bytes of s there are up to the last b, with it, or 0.
-fn last_of(s: &[u8], b: u8) -> usize
-    ensures { (result ≡ last b s.now) × (result ≤ length s.now) }
+// How many places stand behind the last comma of s.
+fn last_group(s: &[u8]) -> Option<usize>
+    ensures { MatchOption result (last 44 s.now ≡ 0) (λ n. (0 < last 44 s.now) × (last 44 s.now + n ≡ length s.now)) }
 {
-    let mut n = s.len();
-    while 0 < n {
-        let m = n - 1;
-        if s[m] == b {
-            return n;
-        }
-        n = m;
-    }
-    n
+    s.iter().rev().position(|b| *b == b',')
 }
 
 fn primary_of(s: &[u8]) -> usize
     ensures { result ≡ primary_of s.now }
 {
-    let n = last_of(s, 44);
-    if n == 0 {
-        return 0;
-    }
-    s.len() - n
+    last_group(s).unwrap_or(0)
 }
 
 fn secondary_of(s: &[u8]) -> usize
     ensures { result ≡ secondary_of s.now }
 {
-    let n = last_of(s, 44);
-    if n == 0 {
-        return 0;
+    match last_group(s) {
+        Some(n) => last_group(&s[..s.len() - n - 1]).unwrap_or(n),
+        None => 0,
     }
-    let before_last = cut::upto(s, n - 1);
-    if last_of(before_last, 44) == 0 {
-        return primary_of(s);
-    }
-    primary_of(before_last)
 }
 
 // One byte more of the step, kept at STEP_CAP once it is there.
 fn unit_more(n: u64, b: u8) -> u64
-    requires { n ≤ step_cap }
     ensures { result ≡ min (unit n b) step_cap }
 {
-    if b == 35 {
-        return kept(10 * n);
-    }
-    if scan::is_digit(b) {
-        return kept(10 * n + digit_value(b));
-    }
-    n
-}
-
-fn kept(n: u64) -> u64
-    ensures { result ≡ min n step_cap }
-{
-    if n < STEP_CAP {
-        return n;
-    }
-    STEP_CAP
-}
-
-fn units(s: &[u8]) -> u64
-    ensures { result ≡ min (units_from 0 s.now) step_cap }
-{
-    let mut n: u64 = 0;
-    let mut i = 0;
-    while i < s.len() {
-        n = unit_more(n, s[i]);
-        i += 1;
-    }
-    n
+    let more = match b {
+        b'#' => n.saturating_mul(10),
+        b'0'..=b'9' => n.saturating_mul(10).saturating_add(digit_value(b)),
+        _ => n,
+    };
+    more.min(STEP_CAP)
 }
 
 fn step_of(s: &[u8]) -> u64
     ensures { result ≡ min (step_of s.now) step_cap }
 {
-    let n = units(s);
-    if n == 0 {
-        return 1;
-    }
-    n
+    s.iter().fold(0, |n, b| unit_more(n, *b)).max(1)
 }
 
 // Whether the part s has the grammar.
 fn number_fits(s: &[u8]) -> bool
     ensures { result ≡ number_fits s.now }
 {
-    let point = scan::run_until(s, 46);
-    if 0 < count_in(s, 48, 57) {
-        if whole_fits(cut::upto(s, point)) {
-            return fraction_fits(cut::after(s, point + 1));
-        }
-        return false;
-    }
-    false
+    let point = scan::run_until(s, b'.');
+    0 < count_in(s, b'0', b'9')
+        && whole_fits(cut::upto(s, point))
+        && fraction_fits(cut::after(s, point + 1))
 }
 
 // Reads a number part.
 pub fn read_part(s: &[u8]) -> Shape
     ensures { result ≡ capped (shape_of s.now) }
 {
-    let point = scan::run_until(s, 46);
+    let point = scan::run_until(s, b'.');
     let whole = cut::upto(s, point);
     let fraction = cut::after(s, point + 1);
     Shape {
         fits: number_fits(s),
-        least: count_in(whole, 48, 57),
-        whole: whole.len() - count_in(whole, 44, 44),
-        fraction: count_in(fraction, 48, 57),
+        least: count_in(whole, b'0', b'9'),
+        whole: whole.len() - count_in(whole, b',', b','),
+        fraction: count_in(fraction, b'0', b'9'),
         most: fraction.len(),
         primary: primary_of(whole),
         secondary: secondary_of(whole),

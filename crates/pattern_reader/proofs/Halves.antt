@@ -1,8 +1,8 @@
 -- Laws of subpatterns: the table with the step kept at its bound.
-use mathlib.Core.Path.{◌≡◌, ap, ap₂, ◌∙◌}
+use mathlib.Core.Path.{◌≡◌, refl, sym, ap, ap₂, ◌∙◌}
 use mathlib.Core.Bool.{true, false}
-use mathlib.Core.List.{List}
-use Prim.Native.Nat.{ℕ, ◌+◌, min}
+use mathlib.Core.List.{List, [], ◌∷◌}
+use Prim.Native.Nat.{ℕ, zero, suc, ◌+◌, min}
 use native.Mathlib.Omega.{arith}
 use borrow.Author.Tests.{eq-eqb, ne_eqb, ltb-false}
 use lib.ListN.{length, get_or, drop}
@@ -12,7 +12,6 @@ use Rattle.pattern_number.specs.Shape.{step_cap}
 use Rattle.pattern_reader.specs.Limits.{max_step}
 use Rattle.answer.specs.declared.PatternRow.TheVariants.{NotAPattern}
 use Rattle.pattern_reader.specs.declared.Negative.{Negative}
-use Rattle.pattern_reader.specs.declared.Negative.TheVariants.{MinusSymbol}
 use Rattle.pattern_reader.specs.declared.Half.{Half}
 use Rattle.pattern_reader.specs.Reading.{step_over, judged, own_affixes, half_of, end_of, refuse, halves, capped_half}
 
@@ -42,24 +41,49 @@ judged_capped a b n =
 
 -- ---- the cases of a pattern: one subpattern, a byte that ends it, two subpatterns
 
+-- a byte at a place, and what is behind it
+pub record Cut (s : List ℕ) (e f : ℕ) (t : List ℕ) : Type 0 where
+  pub byte : get_or s e 0 ≡ f
+  pub rest : drop (e + 1) s ≡ t
+  pub size : length s ≡ e + 1 + length t
+
+pub cut_at : (e f : ℕ) (s t : List ℕ) → drop e s ≡ f ∷ t → Cut s e f t
+cut_at zero f s t p = rw p (record { byte = refl; rest = refl; size = omega arith })
+cut_at (suc e) f [] t p = absurd (no (ap length p))
+  where
+    no : 0 ≡ suc (length t) → ⊥
+    no g = omega arith
+cut_at (suc e) f (b ∷ s) t p =
+    let w = cut_at e f s t p in
+    let k : suc e + 1 ≡ suc (e + 1) = omega arith in
+    record { byte = w.byte; rest = rw k w.rest; size = omega (arith, w.size) }
+
 module _ (s : List ℕ) (a : Half) (e : a ≡ capped_half (half_of s)) where
-  pub halves_one : end_of a ≡ length s → judged a a MinusSymbol ≡ halves s
-  halves_one k =
-      rw (eq-eqb _ _ (rw e at k))
-      (ap (λ (h : Half). judged h h MinusSymbol) e ∙ judged_capped (half_of s) (half_of s) MinusSymbol)
+  module _ (f : ℕ) (t : List ℕ) (p : drop (end_of a) s ≡ f ∷ t) where
+    some : Cut s (end_of a) f t
+    some = cut_at (end_of a) f s t p
 
-  pub halves_stray : (end_of a ≡ length s → ⊥) → (get_or s (end_of a) 0 ≡ 59 → ⊥) → refuse NotAPattern ≡ halves s
-  halves_stray k h = rw (ne_eqb _ _ (rw e at k), ne_eqb _ _ (rw e at h))
+    more : end_of (half_of s) ≡ length s → ⊥
+    more k = let q : end_of a ≡ length s = rw e k in omega (arith, some.size)
 
-  module _ (k : end_of a ≡ length s → ⊥) (h : get_or s (end_of a) 0 ≡ 59) (b : Half) (f : b ≡ capped_half (half_of (drop (end_of a + 1) s))) where
-    pub halves_more : (end_of a + 1 + end_of b ≡ length s → ⊥) → refuse NotAPattern ≡ halves s
-    halves_more g =
-        let f' : b ≡ capped_half (half_of (drop (end_of (half_of s) + 1) s)) = rw e at f in
-        rw (ne_eqb _ _ (rw e at k), eq-eqb _ _ (rw e at h), ne_eqb _ _ (rw (f', e) at g))
+    pub halves_stray : (f ≡ 59 → ⊥) → refuse NotAPattern ≡ halves s
+    halves_stray h = rw (ne_eqb _ _ more, ne_eqb _ _ (λ k. h (sym (rw e at some.byte) ∙ k)))
 
-    pub halves_two : end_of a + 1 + end_of b ≡ length s → judged a b (own_affixes (end_of a + 1) b) ≡ halves s
-    halves_two g =
-        let f' : b ≡ capped_half (half_of (drop (end_of (half_of s) + 1) s)) = rw e at f in
-        let at = end_of (half_of s) + 1 in
-        rw (ne_eqb _ _ (rw e at k), eq-eqb _ _ (rw e at h), eq-eqb _ _ (rw (f', e) at g))
-        (rw (f', e) (judged_capped (half_of s) (half_of (drop at s)) (own_affixes at (half_of (drop at s)))))
+    module _ (h : f ≡ 59) (b : Half) (g : b ≡ capped_half (half_of t)) where
+      second : b ≡ capped_half (half_of (drop (end_of (half_of s) + 1) s))
+      second = rw (rw e at some.rest) g
+
+      whole : end_of a + 1 + length t ≡ length s
+      whole = sym some.size
+
+      pub halves_more : (end_of b ≡ length t → ⊥) → refuse NotAPattern ≡ halves s
+      halves_more n =
+          let k : end_of a + 1 + end_of b ≡ length s → ⊥ = λ q. n (omega (arith, whole)) in
+          rw (ne_eqb _ _ more, eq-eqb _ _ (rw e at some.byte ∙ h), ne_eqb _ _ (rw (second, e) at k))
+
+      pub halves_two : end_of b ≡ length t → judged a b (own_affixes (end_of a + 1) b) ≡ halves s
+      halves_two n =
+          let k : end_of a + 1 + end_of b ≡ length s = omega (arith, whole) in
+          let at = end_of (half_of s) + 1 in
+          rw (ne_eqb _ _ more, eq-eqb _ _ (rw e at some.byte ∙ h), eq-eqb _ _ (rw (second, e) at k))
+          (rw (second, e) (judged_capped (half_of s) (half_of (drop at s)) (own_affixes at (half_of (drop at s)))))

@@ -4,9 +4,8 @@
 // of which is one constant here; crate pattern_grammar, specs/Grammar.antt, what a pattern is.
 #![tactic(auto)]
 
-ghost use Rattle.std.specs.Prelude.{◌≡◌, [], ◌∷◌, ◌+◌, ◌≤◌, ◌<◌, length, drop};
-ghost use Rattle.decimal.specs.Choice.{both, either};
-ghost use Rattle.pattern_reader.specs.Reading.{places, marks_of, half_of, end_of, fits, many_places, step_over, many_marks, same_marks, span, factor_of, pattern_of, judged_marks, judged, own_affixes, with_second, halves, read_pattern, capped_half};
+ghost use Rattle.std.specs.Prelude.{◌≡◌, ◌+◌, ◌≤◌, length};
+ghost use Rattle.pattern_reader.specs.Reading.{places, half_of, fits, many_places, step_over, many_marks, same_marks, span, factor_of, pattern_of, judged, own_affixes, halves, read_pattern, capped_half};
 
 use answer::{PatternRow, Refusal};
 use decimal::cut;
@@ -67,7 +66,6 @@ pub struct Pattern {
     pub negative: Negative,
 }
 
-
 fn refuse(row: PatternRow) -> Result<Pattern, Refusal>
     ensures { result ≡ Err (Refusal.Pattern row) }
 {
@@ -78,15 +76,9 @@ fn refuse(row: PatternRow) -> Result<Pattern, Refusal>
 fn place_run(s: &[u8]) -> usize
     ensures { (result ≡ places s.now) × (result ≤ length s.now) }
 {
-    let mut i = 0;
-    while i < s.len() {
-        if pattern_token::is_place(s[i]) {
-            i += 1;
-        } else {
-            return i;
-        }
-    }
-    i
+    s.iter()
+        .take_while(|b| pattern_token::is_place(**b))
+        .count()
 }
 
 // Reads the subpattern that s begins with.
@@ -108,7 +100,7 @@ fn read_half(s: &[u8]) -> Half
         number: n,
         suffix: x.len,
         closed: x.closed,
-        shape: shape,
+        shape,
         percents: pattern_affix::count_marks(Mark::Percent, prefix)
             + pattern_affix::count_marks(Mark::Percent, suffix),
         permilles: pattern_affix::count_marks(Mark::Permille, prefix)
@@ -119,61 +111,43 @@ fn read_half(s: &[u8]) -> Half
 fn does_fit(h: Half) -> bool
     ensures { result ≡ fits h }
 {
-    let p = h.shape;
-    if h.closed {
-        return p.fits;
-    }
-    false
+    h.closed && h.shape.fits
 }
 
 fn has_many_places(h: Half) -> bool
     ensures { result ≡ many_places h }
 {
-    let p = h.shape;
-    if MAX_WHOLE < p.whole {
-        return true;
-    }
-    MAX_FRACTION < p.most
+    MAX_WHOLE < h.shape.whole || MAX_FRACTION < h.shape.most
 }
 
 fn is_step_over(h: Half) -> bool
     ensures { result ≡ step_over h }
 {
-    let p = h.shape;
-    MAX_STEP < p.step
+    MAX_STEP < h.shape.step
 }
 
 fn has_many_marks(h: Half) -> bool
     ensures { result ≡ many_marks h }
 {
-    if 1 < h.percents {
-        return true;
-    }
-    if 1 < h.permilles {
-        return true;
-    }
-    1 < h.percents + h.permilles
+    1 < h.percents.saturating_add(h.permilles)
 }
 
 fn has_same_marks(a: Half, b: Half) -> bool
     ensures { result ≡ same_marks a b }
 {
-    if a.percents == b.percents {
-        return a.permilles == b.permilles;
-    }
-    false
+    a.percents == b.percents && a.permilles == b.permilles
 }
 
 fn factor_of(h: Half) -> u64
     ensures { result ≡ factor_of h }
 {
     if 0 < h.percents {
-        return 100;
+        100
+    } else if 0 < h.permilles {
+        1000
+    } else {
+        1
     }
-    if 0 < h.permilles {
-        return 1000;
-    }
-    1
 }
 
 fn span_at(start: usize, len: usize) -> Span
@@ -198,26 +172,8 @@ fn pattern_of(h: Half, negative: Negative) -> Pattern
         secondary: p.secondary,
         step: p.step,
         factor: factor_of(h),
-        negative: negative,
+        negative,
     }
-}
-
-fn does_either(a: bool, b: bool) -> bool
-    ensures { result ≡ either a b }
-{
-    if a {
-        return true;
-    }
-    b
-}
-
-fn do_both(a: bool, b: bool) -> bool
-    ensures { result ≡ both a b }
-{
-    if a {
-        return b;
-    }
-    false
 }
 
 // The table's rows 33 to 36 of the subpatterns a and b, in their order, or the pattern.
@@ -225,29 +181,17 @@ fn judge(a: Half, b: Half, negative: Negative) -> Result<Pattern, Refusal>
     requires { a.prefix + a.number ≤ 256 }
     ensures { result ≡ judged a b negative }
 {
-    if do_both(does_fit(a), does_fit(b)) {
-        if does_either(has_many_places(a), has_many_places(b)) {
-            return refuse(PatternRow::TooManyPlaces);
-        }
-        if does_either(is_step_over(a), is_step_over(b)) {
-            return refuse(PatternRow::StepTooLarge);
-        }
-        return judge_marks(a, b, negative);
+    if !does_fit(a) || !does_fit(b) {
+        refuse(PatternRow::NotAPattern)
+    } else if has_many_places(a) || has_many_places(b) {
+        refuse(PatternRow::TooManyPlaces)
+    } else if is_step_over(a) || is_step_over(b) {
+        refuse(PatternRow::StepTooLarge)
+    } else if has_many_marks(a) || has_many_marks(b) || !has_same_marks(a, b) {
+        refuse(PatternRow::PercentMismatch)
+    } else {
+        Ok(pattern_of(a, negative))
     }
-    refuse(PatternRow::NotAPattern)
-}
-
-fn judge_marks(a: Half, b: Half, negative: Negative) -> Result<Pattern, Refusal>
-    requires { a.prefix + a.number ≤ 256 }
-    ensures { result ≡ judged_marks a b negative }
-{
-    if does_either(has_many_marks(a), has_many_marks(b)) {
-        return refuse(PatternRow::PercentMismatch);
-    }
-    if has_same_marks(a, b) {
-        return Ok(pattern_of(a, negative));
-    }
-    refuse(PatternRow::PercentMismatch)
 }
 
 // The affixes of the subpattern b, which starts at a place.
@@ -267,18 +211,17 @@ fn read_halves(s: &[u8]) -> Result<Pattern, Refusal>
 {
     let a = read_half(s);
     let end = a.prefix + a.number + a.suffix;
-    if end == s.len() {
+    let Some((first, rest)) = cut::after(s, end).split_first() else {
         return judge(a, a, Negative::MinusSymbol);
-    }
-    if s[end] != 59 {
+    };
+    if *first != b';' {
         return refuse(PatternRow::NotAPattern);
     }
-    let at = end + 1;
-    let b = read_half(&s[at..]);
-    if at + (b.prefix + b.number + b.suffix) != s.len() {
+    let b = read_half(rest);
+    if b.prefix + b.number + b.suffix != rest.len() {
         return refuse(PatternRow::NotAPattern);
     }
-    judge(a, b, own_affixes(at, b))
+    judge(a, b, own_affixes(end + 1, b))
 }
 
 // Reads a pattern.
@@ -286,13 +229,12 @@ pub fn read_pattern(s: &[u8]) -> Result<Pattern, Refusal>
     ensures { result ≡ read_pattern s.now }
 {
     if MAX_BYTES < s.len() {
-        return refuse(PatternRow::PatternTooLong);
+        refuse(PatternRow::PatternTooLong)
+    } else if !utf8::is_utf8(s) {
+        refuse(PatternRow::PatternNotUtf8)
+    } else if pattern_affix::has_reserved(s) {
+        refuse(PatternRow::ReservedByte)
+    } else {
+        read_halves(s)
     }
-    if utf8::is_utf8(s) {
-        if pattern_affix::has_reserved(s) {
-            return refuse(PatternRow::ReservedByte);
-        }
-        return read_halves(s);
-    }
-    refuse(PatternRow::PatternNotUtf8)
 }

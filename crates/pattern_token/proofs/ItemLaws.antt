@@ -1,14 +1,12 @@
 -- Laws of the items of a pattern: words at the front, tokens and their widths, one token more.
 use mathlib.Core.Path.{◌≡◌, refl, sym, ap, ◌∙◌}
-use mathlib.Core.Bool.{Bool, true, false}
+use mathlib.Core.Bool.{Bool, true}
 use mathlib.Core.List.{List, [], ◌∷◌}
 use Prim.Native.Nat.{ℕ, zero, suc, ◌+◌, ◌-◌, ◌≤◌, ◌<◌}
 use native.Mathlib.Omega.{arith}
-use native.Mathlib.Numerals.{add-one}
-use borrow.Author.Tests.{eq-eqb, ne_eqb}
 use lib.Dec.{eqb}
-use lib.ListN.{length, get_or, drop, drop_of_length-le, length-drop}
-use lib.Seq.{drop-cons, drop-drop}
+use lib.ListN.{length, get_or, drop, length-drop}
+use lib.Seq.{drop-drop}
 use Rattle.decimal.proofs.Choices.{choice, tested, not_both}
 use Rattle.pattern_token.specs.declared.Mark.TheVariants.{Permille}
 use Rattle.pattern_token.specs.declared.Item.{Item}
@@ -19,18 +17,6 @@ use Rattle.decimal.proofs.Runs.{drop_some}
 
 -- ---- a text begins with a word
 
-pub starts_done : (w t : List ℕ) (i : ℕ) → length w ≤ i → starts (drop i w) t ≡ true
-starts_done w t i h = rw (drop_of_length-le w h)
-
-pub starts_end : (w s : List ℕ) (i : ℕ) → i < length w → length s ≤ i → starts (drop i w) (drop i s) ≡ false
-starts_end w s i h k = rw (drop-cons w i 0 h, drop_of_length-le s k)
-
-pub starts_differ : (w s : List ℕ) (i : ℕ) → i < length w → i < length s → (get_or s i 0 ≡ get_or w i 0 → ⊥) → starts (drop i w) (drop i s) ≡ false
-starts_differ w s i h k d = rw (drop-cons w i 0 h, drop-cons s i 0 k, ne_eqb _ _ d)
-
-pub starts_step : (w s : List ℕ) (i : ℕ) → i < length w → i < length s → get_or s i 0 ≡ get_or w i 0 → starts (drop i w) (drop i s) ≡ starts (drop (i + 1) w) (drop (i + 1) s)
-starts_step w s i h k d = rw (drop-cons w i 0 h, drop-cons s i 0 k, eq-eqb _ _ d, add-one i)
-
 starts_fits : (w s : List ℕ) → starts w s ≡ true → length w ≤ length s
 starts_fits [] s h = omega arith
 starts_fits (x ∷ w) [] h = not_both h refl
@@ -38,14 +24,6 @@ starts_fits (x ∷ w) (y ∷ s) h =
     tested (eqb y x) (λ e. omega (arith, starts_fits w s (rw e at h))) (λ e. not_both h (rw e))
 
 -- ---- tokens
-
-pub token_none : (quoted number : Bool) (s : List ℕ) → length s ≡ 0 → token (Text 0) 1 ≡ token_at quoted number s
-token_none true number [] e = refl
-token_none false number [] e = refl
-token_none quoted number (b ∷ s) e = absurd (no e)
-  where
-    no : suc (length s) ≡ 0 → ⊥
-    no k = omega arith
 
 -- a token takes at least one byte, and no more than there are
 pub record Fits (s : List ℕ) (t : Token) : Type 0 where

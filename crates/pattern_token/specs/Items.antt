@@ -6,6 +6,7 @@ use Rattle.pattern_token.specs.declared.Mark.TheVariants.{Minus, Plus, Percent, 
 use Rattle.pattern_token.specs.declared.Item.{Item}
 use Rattle.pattern_token.specs.declared.Item.TheVariants.{Text, Symbol, Place, Quote, Semicolon, Reserved}
 use Rattle.pattern_token.specs.declared.Token.{Token}
+use Rattle.pattern_token.specs.declared.Tokens.{Tokens}
 
 -- a text begins with these bytes
 abbrev pub starts : List ℕ → List ℕ → Bool
@@ -83,3 +84,7 @@ items_from quoted number zero (b ∷ s) =
 
 abbrev pub items : List ℕ → List Item
 items s = items_from false false 0 s
+
+-- the items still to come
+abbrev pub items_left : Tokens → List Item
+items_left t = items_from t.quoted t.number 0 t.rest.now

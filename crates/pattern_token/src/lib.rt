@@ -5,12 +5,13 @@
 #![tactic(auto)]
 
 ghost use Rattle.std.specs.Prelude.{◌≡◌, ◌+◌, ◌≤◌, ◌<◌, length, drop};
-ghost use Rattle.pattern_token.specs.Items.{starts, is_place, is_reserved, bare_of, token_at, quoted_after, is_number};
+ghost use Rattle.std.specs.Iterator.{YieldsFirst, item_count};
+ghost use Rattle.pattern_token.specs.Items.{is_place, bare_of, token_at, quoted_after, is_number, items, items_left};
 
-use decimal::{cut, scan};
+use decimal::cut;
 
 // A mark of an affix, which prints a symbol.
-#[derive(Clone, Copy)]
+#[derive(Clone, Copy, PartialEq, Eq)]
 pub enum Mark {
     Minus,
     Plus,
@@ -35,118 +36,42 @@ pub struct Token {
     pub width: usize,
 }
 
-fn starts_with(s: &[u8], w: &[u8]) -> bool
-    ensures { result ≡ starts w.now s.now }
-{
-    let mut i = 0;
-    while i < w.len() {
-        if s.len() <= i {
-            return false;
-        }
-        if s[i] != w[i] {
-            return false;
-        }
-        i += 1;
-    }
-    true
-}
-
 pub fn is_place(b: u8) -> bool
     ensures { result ≡ is_place b }
 {
-    if b == 35 {
-        return true;
-    }
-    if b == 44 {
-        return true;
-    }
-    if b == 46 {
-        return true;
-    }
-    scan::is_digit(b)
+    matches!(b, b'#' | b',' | b'.' | b'0'..=b'9')
 }
 
-fn is_reserved(number: bool, b: u8) -> bool
-    ensures { result ≡ is_reserved number b }
-{
-    if b == 42 {
-        return true;
-    }
-    if b == 64 {
-        return true;
-    }
-    if b == 69 {
-        return number;
-    }
-    false
-}
-
+// A byte outside quotes.
 fn bare(number: bool, b: u8) -> Item
     ensures { result ≡ bare_of number b }
 {
-    if is_place(b) {
-        return Item::Place(b);
+    match b {
+        b'%' => Item::Symbol(Mark::Percent),
+        b'+' => Item::Symbol(Mark::Plus),
+        b'-' => Item::Symbol(Mark::Minus),
+        b';' => Item::Semicolon,
+        b'*' | b'@' => Item::Reserved,
+        b'E' if number => Item::Reserved,
+        _ if is_place(b) => Item::Place(b),
+        _ => Item::Text(b),
     }
-    if b == 37 {
-        return Item::Symbol(Mark::Percent);
-    }
-    if b == 43 {
-        return Item::Symbol(Mark::Plus);
-    }
-    if b == 45 {
-        return Item::Symbol(Mark::Minus);
-    }
-    if b == 59 {
-        return Item::Semicolon;
-    }
-    if is_reserved(number, b) {
-        return Item::Reserved;
-    }
-    Item::Text(b)
 }
 
 // The token that s begins with; a text with no byte counts as a byte 0.
 fn token_at(quoted: bool, number: bool, s: &[u8]) -> Token
     ensures { result ≡ token_at quoted number s.now }
 {
-    if s.len() == 0 {
-        return Token {
-            item: Item::Text(0),
-            width: 1,
-        };
-    }
-    if starts_with(s, b"''") {
-        return Token {
-            item: Item::Text(39),
-            width: 2,
-        };
-    }
-    if s[0] == 39 {
-        return Token {
-            item: Item::Quote,
-            width: 1,
-        };
-    }
-    if quoted {
-        return Token {
-            item: Item::Text(s[0]),
-            width: 1,
-        };
-    }
-    if starts_with(s, b"\xE2\x80\xB0") {
-        return Token {
-            item: Item::Symbol(Mark::Permille),
-            width: 3,
-        };
-    }
-    if starts_with(s, b"\xC2\xA4") {
-        return Token {
-            item: Item::Reserved,
-            width: 2,
-        };
-    }
-    let t = bare(number, s[0]);
-    Token { item: t, width: 1 }
+    let (item, width) = match s {
+        [] => (Item::Text(0), 1),
+        [b'\'', b'\'', ..] => (Item::Text(b'\''), 2),
+        [b'\'', ..] => (Item::Quote, 1),
+        [b, ..] if quoted => (Item::Text(*b), 1),
+        [0xE2, 0x80, 0xB0, ..] => (Item::Symbol(Mark::Permille), 3),
+        [0xC2, 0xA4, ..] => (Item::Reserved, 2),
+        [b, ..] => (bare(number, *b), 1),
+    };
+    Token { item, width }
 }
 
 // The token at a place of s, inside quotes or not, directly after a bare number-part byte or not.
@@ -162,23 +87,51 @@ pub fn quoted_after(q: bool, t: Item) -> bool
 {
     match t {
         Item::Quote => !q,
-        Item::Text(_) => q,
-        Item::Symbol(_) => q,
-        Item::Place(_) => q,
-        Item::Semicolon => q,
-        Item::Reserved => q,
+        _ => q,
     }
 }
 
 pub fn is_number(t: Item) -> bool
     ensures { result ≡ is_number t }
 {
-    match t {
-        Item::Place(_) => true,
-        Item::Text(_) => false,
-        Item::Symbol(_) => false,
-        Item::Quote => false,
-        Item::Semicolon => false,
-        Item::Reserved => false,
+    matches!(t, Item::Place(_))
+}
+
+// The items of a pattern, one after the other: the bytes still to read, and whether they stand in
+// quotes, and directly after a bare number-part byte.
+#[derive(Clone, Copy)]
+pub struct Tokens<'a> {
+    pub rest: &'a [u8],
+    pub quoted: bool,
+    pub number: bool,
+}
+
+// The items of s.
+pub fn items_of(s: &[u8]) -> Tokens<'_>
+    ensures { items_left result ≡ items s.now }
+{
+    Tokens {
+        rest: s,
+        quoted: false,
+        number: false,
+    }
+}
+
+impl<'a> Iterator for Tokens<'a> {
+    type Item = Item;
+
+    ghost next_gives = { YieldsFirst items_left };
+
+    ghost remaining = { item_count items_left };
+
+    fn next(&mut self) -> Option<Item> {
+        if self.rest.is_empty() {
+            return None;
+        }
+        let Token { item, width } = token_in(self.rest, 0, self.quoted, self.number);
+        self.rest = cut::after(self.rest, width);
+        self.quoted = quoted_after(self.quoted, item);
+        self.number = is_number(item);
+        Some(item)
     }
 }

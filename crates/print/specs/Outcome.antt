@@ -2,15 +2,13 @@
 use Rattle.std.specs.Prelude.{Err, Ok, Result, List, ℕ, ltb, if◌then◌else◌}
 use Rattle.answer.specs.declared.Refusal.{Refusal}
 use Rattle.answer.specs.declared.Refusal.TheVariants.{Print as OfPrint}
-use Rattle.answer.specs.declared.PrintRow.TheVariants.{PrintedExponent, AreaTooShort}
+use Rattle.answer.specs.declared.PrintRow.TheVariants.{PrintedExponent}
 use Rattle.symbols.specs.Entries.{read_symbols, symbol_in, standard_record}
 use Rattle.pattern_reader.specs.declared.Pattern.{Pattern}
 use Rattle.pattern_reader.specs.Reading.{read_pattern}
 use Rattle.number.specs.declared.Number.{Number}
 use Rattle.number.specs.Reading.{read_number}
 use Rattle.layout.specs.Text.{text_of}
-use Rattle.print_area.specs.declared.Written.{Written}
-use Rattle.print_area.specs.declared.Written.TheVariants.{Whole, TooLong}
 use Rattle.print_area.specs.Whole.{written_in, area_with}
 
 -- what is to be printed, before the output area is looked at
@@ -37,14 +35,9 @@ after_symbols house (Err r) s number = refused r
 abbrev pub outcome : List ℕ → List ℕ → List ℕ → Outcome
 outcome house s number = after_symbols house (read_symbols house) s number
 
--- 51: "text longer than the output area", with the bytes needed
-abbrev pub told_as : Written → Result ℕ Refusal
-told_as (Whole n) = Ok n
-told_as (TooLong n) = Err (OfPrint (AreaTooShort n))
-
--- the answer: the text's length, or the refusal
+-- the answer: the text's length, or the refusal; 51 where the text is longer than the area
 abbrev pub answer_of : Outcome → List ℕ → Result ℕ Refusal
-answer_of (text t) area = told_as (written_in t area)
+answer_of (text t) area = written_in t area
 answer_of (refused r) area = Err r
 
 -- "A refusal writes nothing; a success writes its text at the front and no byte beyond": the whole area behind

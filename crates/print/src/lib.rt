@@ -12,24 +12,11 @@ ghost use Rattle.symbols.specs.Entries.{read_symbols, symbol_in, standard_record
 ghost use Rattle.pattern_reader.specs.Reading.{read_pattern};
 ghost use Rattle.number.specs.Reading.{read_number};
 ghost use Rattle.layout.specs.Text.{text_of};
-ghost use Rattle.print.specs.Outcome.{told_as, of_number, after_number, after_pattern, outcome, answer_of, area_of};
+ghost use Rattle.print.specs.Outcome.{of_number, outcome, answer_of, area_of};
 
 use answer::{PrintRow, Refusal};
 use number::Number;
 use pattern_reader::Pattern;
-use print_area::Written;
-
-// A text of so many bytes at the area's front, or why there is none.
-
-// What the text in the area is told as: 51 where it is too long.
-fn told(w: Written) -> Result<usize, Refusal>
-    ensures { result ≡ told_as w }
-{
-    match w {
-        Written::Whole(n) => Ok(n),
-        Written::TooLong(n) => Err(Refusal::Print(PrintRow::AreaTooShort(n))),
-    }
-}
 
 // The number is read: 50, and then its digits.
 fn print_number(house: &[u8], pattern: &[u8], p: Pattern, n: Number, out: &mut [u8]) -> Result<usize, Refusal>
@@ -41,35 +28,9 @@ fn print_number(house: &[u8], pattern: &[u8], p: Pattern, n: Number, out: &mut [
     if 0 < n.e {
         return Err(Refusal::Print(PrintRow::PrintedExponent));
     }
-    let v = n.v;
-    let f = n.f;
-    let mut digits = [48u8; 41];
-    rounding::round_into(&mut digits, p.step, p.factor, p.most, n.i, v, f);
-    told(print_area::write_digits(house, pattern, p, n.negative, &digits, out))
-}
-
-fn print_text(house: &[u8], pattern: &[u8], p: Pattern, number: &[u8], out: &mut [u8]) -> Result<usize, Refusal>
-    requires { (read_symbols house.now ≡ Ok tt × (read_pattern pattern.now ≡ Ok p) }
-    ensures value { result ≡ answer_of (after_number house.now pattern.now p (read_number number.now)) out.old }
-    ensures out_after { out.new ≡ area_of (after_number house.now pattern.now p (read_number number.now)) out.old }
-{
-    let reading = number_text::read_number(number);
-    match reading {
-        Ok(n) => print_number(house, pattern, p, n, out),
-        Err(r) => Err(r),
-    }
-}
-
-fn print_pattern(house: &[u8], pattern: &[u8], number: &[u8], out: &mut [u8]) -> Result<usize, Refusal>
-    requires { read_symbols house.now ≡ Ok tt }
-    ensures value { result ≡ answer_of (after_pattern house.now pattern.now (read_pattern pattern.now) number.now) out.old }
-    ensures out_after { out.new ≡ area_of (after_pattern house.now pattern.now (read_pattern pattern.now) number.now) out.old }
-{
-    let reading = pattern_reader::read_pattern(pattern);
-    match reading {
-        Ok(p) => print_text(house, pattern, p, number, out),
-        Err(r) => Err(r),
-    }
+    let mut digits = [b'0'; 41];
+    rounding::round_into(&mut digits, p.step, p.factor, p.most, n.i, n.v, n.f);
+    print_area::write_digits(house, pattern, p, n.negative, &digits, out)
 }
 
 // Prints the number through the pattern with the symbols of the record, and the standard symbols where
@@ -79,9 +40,8 @@ pub fn print(symbols: &[u8], pattern: &[u8], number: &[u8], out: &mut [u8]) -> R
     ensures value { result ≡ answer_of (outcome symbols.now pattern.now number.now) out.old }
     ensures out_after { out.new ≡ area_of (outcome symbols.now pattern.now number.now) out.old }
 {
-    let judged = symbols::read_symbols(symbols);
-    match judged {
-        Ok(()) => print_pattern(symbols, pattern, number, out),
-        Err(r) => Err(r),
-    }
+    symbols::read_symbols(symbols)?;
+    let p = pattern_reader::read_pattern(pattern)?;
+    let n = number_text::read_number(number)?;
+    print_number(symbols, pattern, p, n, out)
 }

@@ -11,20 +11,15 @@ ghost use Rattle.symbols.specs.Entries.{symbol_in, standard_record};
 ghost use Rattle.layout.specs.Text.{affixes_of, laid_out};
 ghost use Rattle.print_area.specs.Whole.{written_in, area_with};
 
+use answer::{PrintRow, Refusal};
 use pattern_reader::Pattern;
-
-// The text's length where it is written; the bytes needed where it is longer than the area.
-#[derive(Clone, Copy)]
-pub enum Written {
-    Whole(usize),
-    TooLong(usize),
-}
 
 // A text of at most so many bytes is laid out once.
 const ROOM: usize = 64;
 
 // The digits as the pattern's text. It is laid out aside, so that nothing is written of one that is too
-// long; one that had no room there is laid out again.
+// long; one that had no room there is laid out again. Answers the text's length, or the bytes needed
+// where it is longer than the area.
 pub fn write_digits(
     house: &[u8],
     pattern: &[u8],
@@ -32,7 +27,7 @@ pub fn write_digits(
     negative: bool,
     digits: &[u8],
     out: &mut [u8],
-) -> Written
+) -> Result<usize, Refusal>
     requires { length (laid_out (symbol_in house.now standard_record) pattern.now p (affixes_of p negative) digits.now) ≤ most }
     ensures value { result ≡ written_in (laid_out (symbol_in house.now standard_record) pattern.now p (affixes_of p negative) digits.now) out.old }
     ensures out_after { out.new ≡ area_with (laid_out (symbol_in house.now standard_record) pattern.now p (affixes_of p negative) digits.now) out.old }
@@ -41,12 +36,12 @@ pub fn write_digits(
     let mut aside = [0u8; ROOM];
     let need = layout::write_text(&mut aside, house, pattern, p, a, digits);
     if out.len() < need {
-        return Written::TooLong(need);
+        return Err(Refusal::Print(PrintRow::AreaTooShort(need)));
     }
     if need <= ROOM {
         area::append(out, 0, decimal::cut::upto(&aside, need));
-        return Written::Whole(need);
+    } else {
+        layout::write_text(out, house, pattern, p, a, digits);
     }
-    layout::write_text(out, house, pattern, p, a, digits);
-    Written::Whole(need)
+    Ok(need)
 }

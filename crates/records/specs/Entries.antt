@@ -1,8 +1,8 @@
 -- Document 01's habit of records: "One byte of kind, then a body whose length the kind fixes; records run to the end." Who uses it gives two functions of a
 -- kind byte: `lengths`, the length of the body (0: the kind is unknown), and `names`, what the kind stands for.
-use Rattle.std.specs.Prelude.{◌≡◌, Bool, true, false, List, [], ◌∷◌, ℕ, zero, suc, ◌+◌, ◌≤◌, ◌<◌, ltb, eqb, length, get_or, take, drop, if◌then◌else◌}
+use Rattle.std.specs.Prelude.{◌≡◌, Bool, true, false, List, [], ◌∷◌, ◌++◌, ℕ, zero, suc, ltb, eqb, length, get_or, take, if◌then◌else◌, Option, None, Some, is_some}
+use Rattle.std.specs.Option.{unwrap_or}
 use Rattle.records.specs.declared.Head.{Head}
-use Rattle.records.specs.declared.Spot.{Spot}
 
 -- ---- the entries
 
@@ -66,29 +66,22 @@ abbrev pub every : (Entry → Bool) → List Entry → Bool
 every test [] = true
 every test (e ∷ es) = if test e then every test es else false
 
--- ---- what a walk finds at a place
-
-abbrev pub no_head : Head
-no_head = record { name = 0; len = 0 }
+-- ---- what a walk finds in front
 
 -- an entry's name and its body's length
-abbrev pub head_in : ℕ → ℕ → Head
-head_in name n = if eqb n 0 then no_head else record { name = name; len = n }
+abbrev pub head_in : {N : Type 0} → N → ℕ → Option (Head N)
+head_in name n = if eqb n 0 then None else Some (record { name = name; len = n })
 
 -- those of the entry that a record begins with
-abbrev pub head_of : (ℕ → ℕ) → (ℕ → ℕ) → List ℕ → Head
+abbrev pub head_of : (ℕ → ℕ) → (ℕ → ℕ) → List ℕ → Option (Head ℕ)
 head_of lengths names s = head_in (names (get_or s 0 0)) (body_len lengths s)
 
--- h is what stands at the place i of s
-pub record Stands (lengths names : ℕ → ℕ) (s : List ℕ) (i : ℕ) (h : Head) : Type 0 where
-  pub head : h ≡ head_of lengths names (drop i s)
-  pub within : i + h.len < length s
+-- s begins with an entry of this name and this body, and goes on with `rest`
+pub record Stands (lengths names : ℕ → ℕ) (s : List ℕ) (name : ℕ) (body rest : List ℕ) : Type 0 where
+  pub head : head_of lengths names s ≡ Some (record { name = name; len = length body })
+  pub text : s ≡ get_or s 0 0 ∷ (body ++ rest)
 
-abbrev pub nowhere : Spot
-nowhere = record { found = false; start = 0; len = 0 }
-
--- where the body of the first entry of the name x stands in s
-pub record Located (lengths names : ℕ → ℕ) (x : ℕ) (s : List ℕ) (r : Spot) : Type 0 where
-  pub found : r.found ≡ holds names x (entries lengths s)
-  pub part : take r.len (drop r.start s) ≡ body_in names x (entries lengths s)
-  pub within : r.start + r.len ≤ length s
+-- r is the body of the first entry of the name x
+pub record Located (lengths names : ℕ → ℕ) (x : ℕ) (s : List ℕ) (r : Option (List ℕ)) : Type 0 where
+  pub found : is_some r ≡ holds names x (entries lengths s)
+  pub part : unwrap_or r [] ≡ body_in names x (entries lengths s)

@@ -8,60 +8,22 @@
 #![tactic(auto)]
 
 ghost use Rattle.std.specs.Prelude.{◌≡◌};
-ghost use Rattle.records.specs.Entries.{fitting, no_head, head_in, nowhere};
+ghost use Rattle.records.specs.Entries.{fitting, head_in};
 
-// The entry at a place: length 0 where none begins there.
+// An entry: what its kind stands for, and its body's length.
 #[derive(Clone, Copy)]
-pub struct Head {
-    pub name: u8,
+pub struct Head<N> {
+    pub name: N,
     pub len: usize,
-}
-
-// Where a body stands in a record: an empty part at its front where it is not found.
-#[derive(Clone, Copy)]
-pub struct Spot {
-    pub found: bool,
-    pub start: usize,
-    pub len: usize,
-}
-
-// The body's length of an entry in front of n bytes, its own among them, whose kind fixes m: 0 where
-// the kind is unknown or the body cut short.
-fn fitting(m: usize, n: usize) -> usize
-    ensures { result ≡ fitting m n }
-{
-    if m < n {
-        return m;
-    }
-    0
-}
-
-pub fn no_head() -> Head
-    ensures { result ≡ no_head }
-{
-    Head { name: 0, len: 0 }
 }
 
 // The entry with this name, whose kind fixes m, in front of n bytes.
-pub fn head_in(name: u8, m: usize, n: usize) -> Head
+pub fn head_in<N: Copy>(name: N, m: usize, n: usize) -> Option<Head<N>>
     ensures { result ≡ head_in name (fitting m n) }
 {
-    let len = fitting(m, n);
-    if len == 0 {
-        return no_head();
-    }
-    Head {
-        name: name,
-        len: len,
-    }
-}
-
-pub fn nowhere() -> Spot
-    ensures { result ≡ nowhere }
-{
-    Spot {
-        found: false,
-        start: 0,
-        len: 0,
+    if 0 < m && m < n {
+        Some(Head { name, len: m })
+    } else {
+        None
     }
 }

@@ -155,9 +155,6 @@ divide_done step d₀ d r i s h =
 
 -- ---- the last digit
 
-pub odd_none : (s : List ℕ) → length s ≡ 0 → 0 ≡ value s % 2
-odd_none s e = rw (sym (take-length s) ∙ ap (λ (n : ℕ). take n s) e)
-
 pub odd_last : (s : List ℕ) (j x : ℕ) → length s ≡ suc j → x ≡ get_or s j 0 - 48 → x % 2 ≡ value s % 2
 odd_last s j x e ex =
     let k : s ≡ take j s ++ (get_or s j 0 ∷ []) = sym (take-length s) ∙ ap (λ (n : ℕ). take n s) e ∙ take-suc s j 0 (omega arith) in

@@ -10,7 +10,12 @@ ghost use Rattle.decimal.specs.Digits.{AllDigits, value, figures};
 ghost use Rattle.nearest.specs.Nearest.{up, steps_of, units_of};
 ghost use Rattle.rounding.specs.Limits.{width, max_integer, max_places, max_fraction, max_factor, max_step, max_word, within, in_word, rounded};
 
+use decimal::figure::write_figures;
+use decimal::num::power;
+use decimal::scan::leading_zeros;
+use decimal::value::digit_value;
 use decimal::{DigitValue, Places};
+use std::cmp::Ordering;
 
 const WIDTH: usize = 41;
 
@@ -26,44 +31,14 @@ const MAX_STEP: u64 = 999_999;
 
 const MAX_WORD: u64 = 1_000_000_000_000_000_000;
 
-// The powers of ten from 10 ^ 0 on.
-const TENS: [u64; 10] = [
-    1,
-    10,
-    100,
-    1000,
-    10_000,
-    100_000,
-    1_000_000,
-    10_000_000,
-    100_000_000,
-    1_000_000_000,
-];
-
-// The value of a digit; 0 of a byte below `0`.
-fn digit(b: u8) -> u64
-    ensures { (result ≡ b - 48) × (result ≤ 207) }
-{
-    if b < 48 {
-        return 0;
-    }
-    (b - 48) as u64
-}
-
-fn ten_to(k: usize) -> u64
-    requires { k ≤ max_places }
-    ensures { (result ≡ 10 ^ k) × (result ≤ 1000000000) }
-{
-    TENS[k]
-}
-
-fn less(a: usize, b: usize) -> usize
-    ensures { result ≡ a - b }
-{
-    if a < b {
-        return 0;
-    }
-    a - b
+// The value of i and of fraction digits of value f, in units of which `unit` make one, each taken
+// `rise` times.
+#[derive(Clone, Copy)]
+struct Exact {
+    unit: u64,
+    rise: u64,
+    i: u64,
+    f: u64,
 }
 
 // Multiplies the number of the digits d by m in place, and adds c.
@@ -72,11 +47,9 @@ fn scale(d: &mut [u8], m: u64, c: u64)
     ensures { d.new ≡ figures (length d.old) (value d.old * m + c) }
 {
     let mut over = c;
-    let mut i = d.len();
-    while 0 < i {
-        i -= 1;
-        let n = digit(d[i]) * m + over;
-        d[i] = 48 + (n % 10) as u8;
+    for i in (0..d.len()).rev() {
+        let n = digit_value(d[i]) * m + over;
+        d[i] = b'0' + (n % 10) as u8;
         over = n / 10;
     }
 }
@@ -86,13 +59,11 @@ fn divide(d: &mut [u8], step: u64) -> u64
     requires { (0 < step) × (step ≤ 1000000000000000) × AllDigits d.old }
     ensures { (result ≡ value d.old % step) × (d.new ≡ figures (length d.old) (value d.old / step)) }
 {
-    let mut r: u64 = 0;
-    let mut i = decimal::scan::leading_zeros(d);
-    while i < d.len() {
-        let n = 10 * r + digit(d[i]);
-        d[i] = 48 + (n / step) as u8;
+    let mut r = 0;
+    for i in leading_zeros(d)..d.len() {
+        let n = 10 * r + digit_value(d[i]);
+        d[i] = b'0' + (n / step) as u8;
         r = n % step;
-        i += 1;
     }
     r
 }
@@ -101,48 +72,32 @@ fn divide(d: &mut [u8], step: u64) -> u64
 fn odd_of(d: &[u8]) -> u64
     ensures { (result ≡ value d.now % 2) × (result ≤ 1) }
 {
-    if d.len() == 0 {
-        return 0;
+    match d {
+        [] => 0,
+        [.., last] => digit_value(*last) % 2,
     }
-    let last = d.len() - 1;
-    digit(d[last]) % 2
 }
 
 fn up_by(step: u64, odd: u64, r: u64) -> u64
     requires { (step ≤ 1000000000000000) × (r < step) × (odd ≤ 1) }
     ensures { (result ≡ up step odd r) × (result ≤ 1) }
 {
-    if 2 * r < step {
-        return 0;
+    match (2 * r).cmp(&step) {
+        Ordering::Less => 0,
+        Ordering::Equal => odd,
+        Ordering::Greater => 1,
     }
-    if step < 2 * r {
-        return 1;
-    }
-    odd
 }
 
 fn is_within(step: u64, factor: u64, most: usize, i: u64, v: usize, f: u64) -> bool
     ensures { result ≡ within step factor most i v f }
 {
-    if step < 1 {
-        return false;
-    }
-    if MAX_STEP < step {
-        return false;
-    }
-    if MAX_FACTOR < factor {
-        return false;
-    }
-    if MAX_PLACES < most {
-        return false;
-    }
-    if MAX_INTEGER < i {
-        return false;
-    }
-    if MAX_PLACES < v {
-        return false;
-    }
-    f <= MAX_FRACTION
+    (1..=MAX_STEP).contains(&step)
+        && factor <= MAX_FACTOR
+        && most <= MAX_PLACES
+        && i <= MAX_INTEGER
+        && v <= MAX_PLACES
+        && f <= MAX_FRACTION
 }
 
 // Fills d with the digits of i * unit + f, at once where a word has room for it.
@@ -151,24 +106,22 @@ fn write_whole(d: &mut [u8], unit: u64, i: u64, f: u64)
     ensures { d.new ≡ figures (length d.old) (i * unit + f) }
 {
     if i <= MAX_WORD / unit {
-        decimal::figure::write_figures(d, i * unit + f);
-        return;
+        write_figures(d, i * unit + f);
+    } else {
+        write_figures(d, i);
+        scale(d, unit, f);
     }
-    decimal::figure::write_figures(d, i);
-    scale(d, unit, f);
 }
 
-// Fills d with the digits of the value of i and of fraction digits of value f, in units of which
-// `unit` make one, each taken `rise` times.
-fn write_exact(d: &mut [u8], unit: u64, rise: u64, i: u64, f: u64)
-    requires { (width ≤ length d.old) × (0 < unit) × (unit ≤ 1000000000) × (rise ≤ 1000000000000) × (i ≤ max_integer) × (f ≤ max_fraction) }
-    ensures { d.new ≡ figures (length d.old) ((i * unit + f) * rise) }
+// Fills d with the digits of that value.
+fn write_exact(d: &mut [u8], x: Exact)
+    requires { (width ≤ length d.old) × (0 < x.unit) × (x.unit ≤ 1000000000) × (x.rise ≤ 1000000000000) × (x.i ≤ max_integer) × (x.f ≤ max_fraction) }
+    ensures { d.new ≡ figures (length d.old) ((x.i * x.unit + x.f) * x.rise) }
 {
-    write_whole(d, unit, i, f);
-    if rise == 1 {
-        return;
+    write_whole(d, x.unit, x.i, x.f);
+    if x.rise != 1 {
+        scale(d, x.rise, 0);
     }
-    scale(d, rise, 0);
 }
 
 // Turns the number of the digits d into the nearest number of steps, each of which is `scaled` of its
@@ -182,20 +135,18 @@ fn round_by(d: &mut [u8], step: u64, scaled: u64)
         return;
     }
     let r = divide(d, scaled);
-    let odd = odd_of(d);
-    let u = up_by(scaled, odd, r);
-    if step + u == 1 {
-        return;
+    let up = up_by(scaled, odd_of(d), r);
+    if step + up != 1 {
+        scale(d, step, up * step);
     }
-    scale(d, step, u * step);
 }
 
 // Fills d with the digits of the rounded value, by the digit engine.
-fn round_digits(d: &mut [u8], step: u64, scaled: u64, unit: u64, rise: u64, i: u64, f: u64)
-    requires { (width ≤ length d.old) × (0 < unit) × (unit ≤ 1000000000) × (rise ≤ 1000000000000) × (i ≤ max_integer) × (f ≤ max_fraction) × (0 < step) × (step ≤ max_step) × (step ≤ scaled) × (scaled ≤ 1000000000000000) }
-    ensures { d.new ≡ figures (length d.old) (steps_of scaled ((i * unit + f) * rise) * step) }
+fn round_digits(d: &mut [u8], step: u64, scaled: u64, x: Exact)
+    requires { (width ≤ length d.old) × (0 < x.unit) × (x.unit ≤ 1000000000) × (x.rise ≤ 1000000000000) × (x.i ≤ max_integer) × (x.f ≤ max_fraction) × (0 < step) × (step ≤ max_step) × (step ≤ scaled) × (scaled ≤ 1000000000000000) }
+    ensures { d.new ≡ figures (length d.old) (steps_of scaled ((x.i * x.unit + x.f) * x.rise) * step) }
 {
-    write_exact(d, unit, rise, i, f);
+    write_exact(d, x);
     round_by(d, step, scaled);
 }
 
@@ -204,7 +155,7 @@ fn rise_of(factor: u64, most: usize, v: usize) -> u64
     requires { (factor ≤ max_factor) × (most ≤ max_places) × (v ≤ max_places) }
     ensures { (result ≡ factor * 10 ^ (most - v)) × (10 ^ v * result ≤ 1000000000000) }
 {
-    factor * ten_to(less(most, v))
+    factor * power(most.saturating_sub(v) as u64)
 }
 
 // The step times what 10 ^ v has above 10 ^ most.
@@ -212,30 +163,23 @@ fn scaled_of(step: u64, most: usize, v: usize) -> u64
     requires { (0 < step) × (step ≤ max_step) × (v ≤ max_places) }
     ensures { (result ≡ step * 10 ^ (v - most)) × (step ≤ result) × (result ≤ 1000000000000000) }
 {
-    step * ten_to(less(v, most))
+    step * power(v.saturating_sub(most) as u64)
 }
 
-// Whether the value that write_exact writes has room in a word.
-fn is_in_word(unit: u64, rise: u64, i: u64, f: u64) -> bool
-    requires { unit * rise ≤ 1000000000000 }
-    ensures { result ≡ in_word unit rise i f }
+// Whether the value has room in a word.
+fn is_in_word(x: Exact) -> bool
+    requires { x.unit * x.rise ≤ 1000000000000 }
+    ensures { result ≡ in_word x.unit x.rise x.i x.f }
 {
-    if unit < f {
-        return false;
-    }
-    let whole = unit * rise;
-    if whole == 0 {
-        return false;
-    }
-    i < MAX_WORD / whole
+    let whole = x.unit * x.rise;
+    x.f <= x.unit && whole != 0 && x.i < MAX_WORD / whole
 }
 
-// That value.
-fn word_of(unit: u64, rise: u64, i: u64, f: u64) -> u64
-    requires { in_word unit rise i f ≡ true }
-    ensures { (result ≡ (i * unit + f) * rise) × (result ≤ max_word) }
+fn word_of(x: Exact) -> u64
+    requires { in_word x.unit x.rise x.i x.f ≡ true }
+    ensures { (result ≡ (x.i * x.unit + x.f) * x.rise) × (result ≤ max_word) }
 {
-    (i * unit + f) * rise
+    (x.i * x.unit + x.f) * x.rise
 }
 
 // The number of steps nearest to n.
@@ -253,7 +197,7 @@ fn round_word(d: &mut [u8], step: u64, scaled: u64, n: u64)
     requires { (step ≤ scaled) × (0 < scaled) × (scaled ≤ 1000000000000000) × (n ≤ max_word) }
     ensures { d.new ≡ figures (length d.old) (steps_of scaled n * step) }
 {
-    decimal::figure::write_figures(d, steps_of(scaled, n) * step);
+    write_figures(d, steps_of(scaled, n) * step);
 }
 
 // Rounds by the word engine where the value has room, else by the digit engine. The power of ten that
@@ -262,14 +206,15 @@ fn round_within(d: &mut [u8], step: u64, factor: u64, most: usize, i: u64, v: us
     requires { (width ≤ length d.old) × (within step factor most i v f ≡ true) }
     ensures { d.new ≡ figures (length d.old) (units_of step factor most i v f) }
 {
-    let unit = ten_to(v);
+    let unit = power(v as u64);
     let rise = rise_of(factor, most, v);
     let scaled = scaled_of(step, most, v);
-    if is_in_word(unit, rise, i, f) {
-        round_word(d, step, scaled, word_of(unit, rise, i, f));
-        return;
+    let x = Exact { unit, rise, i, f };
+    if is_in_word(x) {
+        round_word(d, step, scaled, word_of(x));
+    } else {
+        round_digits(d, step, scaled, x);
     }
-    round_digits(d, step, scaled, unit, rise, i, f);
 }
 
 // Fills d with the digits of the multiple of the step nearest to the value of i and of v fraction
@@ -289,12 +234,8 @@ pub fn round_into(
 {
     let places = v.0 as usize;
     let good = is_within(step, factor, most, i, places, f.0);
-    if d.len() < WIDTH {
-        return good;
-    }
-    if good {
+    if good && WIDTH <= d.len() {
         round_within(d, step, factor, most, i, places, f.0);
-        return true;
     }
-    false
+    good
 }

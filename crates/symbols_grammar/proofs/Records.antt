@@ -1,5 +1,5 @@
 -- The record that is read is the record that the bytes spell; rows 40 and 41; the body that the finder gives is the symbol's.
-use Rattle.std.specs.Prelude.{Ok, Result}
+use Rattle.std.specs.Prelude.{Ok, Result, Option, None, Some}
 use Rattle.answer.specs.declared.Refusal.{Refusal}
 use mathlib.Core.Path.{◌≡◌, refl, sym, ap, subst, ◌∙◌}
 use mathlib.Core.Bool.{true, false}
@@ -16,15 +16,13 @@ use Rattle.records.proofs.Told.{holds_told, twice_told, once_told, body_found}
 use Rattle.records.proofs.Spellings.{all_among, spells_as, spells_read as fixed-read, read_spells as read-fixed}
 use Rattle.symbols.specs.declared.Symbol.{Symbol}
 use Rattle.symbols.specs.declared.Symbol.TheVariants.{Decimal, Group, Minus, Plus, Percent, Permille, Minimum}
-use Rattle.symbols.specs.declared.Kind.{Kind}
-use Rattle.symbols.specs.declared.Kind.TheVariants.{Unknown, Known}
 use Rattle.symbols.specs.Kinds.{upper_of, longest, kind_with, kind_of, name_of, length_in, length_of}
 use Rattle.symbols.specs.Entries.{entries, broken, holds, body_in, twice, body_fits, bodies_fit, refuse, read_symbols, symbol_in, standard_record}
-use Rattle.symbols.proofs.KindLaws.{kind_at, known_byte, longest_four}
+use Rattle.symbols.proofs.KindLaws.{known, kind_at, upper_same, known_byte, longest_four}
 use Rattle.symbols_grammar.specs.Record.{IsEntry, Spells, Of, Twice, IsBody, IsMinimum, HasBody, text, minimum, Verdict, no_record, symbol_twice, bad_body, good, SymbolIs, own, standard}
 use Rattle.symbols_grammar.proofs.Told.{body_told, bodies_told, unfit_entry}
 
-kind_with_law : (y : Symbol) (n : ℕ) → 1 ≤ n → n ≤ longest y → kind_with (upper_of y) n ≡ Known y n
+kind_with_law : (y : Symbol) (n : ℕ) → 1 ≤ n → n ≤ longest y → kind_with (upper_of y) n ≡ known y n
 kind_with_law Decimal n h k = refl
 kind_with_law Group n h k = refl
 kind_with_law Minus n h k = refl
@@ -33,18 +31,9 @@ kind_with_law Percent n h k = refl
 kind_with_law Permille n h k = refl
 kind_with_law Minimum n h k = let e : n ≡ 1 = omega arith in rw e
 
-longest_one : (y : Symbol) → 1 ≤ longest y
-longest_one Decimal = omega arith
-longest_one Group = omega arith
-longest_one Minus = omega arith
-longest_one Plus = omega arith
-longest_one Percent = omega arith
-longest_one Permille = omega arith
-longest_one Minimum = omega arith
-
 -- ---- entries: the kind's halves are its symbol's and the body's length
 
-kind_spelled : (y : Symbol) (n : ℕ) → 1 ≤ n → n ≤ longest y → kind_of (16 * upper_of y + n) ≡ Known y n
+kind_spelled : (y : Symbol) (n : ℕ) → 1 ≤ n → n ≤ longest y → kind_of (16 * upper_of y + n) ≡ known y n
 kind_spelled y n h k =
     let b = 16 * upper_of y + n in
     let m : n ≤ 4 = omega (arith, longest_four y) in
@@ -53,32 +42,25 @@ kind_spelled y n h k =
 
 entry_fixed : (e : Entry) → IsEntry e → Fixed length_of e
 entry_fixed e w =
-    let k : kind_of e.kind ≡ Known w.symbol (length e.body) = rw w.halves (kind_spelled w.symbol (length e.body) w.least (omega (arith, w.most))) in
+    let k : kind_of e.kind ≡ known w.symbol (length e.body) = rw w.halves (kind_spelled w.symbol (length e.body) w.least (omega (arith, w.most))) in
     record { size = rw k; some = omega (arith, w.least) }
 
 fixed_entry : (e : Entry) → Fixed length_of e → IsEntry e
 fixed_entry e f = by (kind_of e.kind) refl
   where
-    by : (k : Kind) → kind_of e.kind ≡ k → IsEntry e
-    by Unknown q = absurd (omega (arith, f.some, sym (ap length_in q) ∙ f.size))
-    by (Known y n) q =
+    by : (k : Option (Symbol × ℕ)) → kind_of e.kind ≡ k → IsEntry e
+    by None q = absurd (omega (arith, f.some, sym (ap length_in q) ∙ f.size))
+    by (Some (y, n)) q =
         let b = known_byte e.kind y n q in
         let z : n ≡ length e.body = sym (ap length_in q) ∙ f.size in
         record { symbol = y; halves = omega arith; least = omega arith; most = omega arith }
 
 -- an entry of the symbol y is one whose symbol is y
 pub of_told : (e : Entry) (w : IsEntry e) (y : Symbol) → Of y e ↔ (w.symbol ≡ y)
-of_told e w y = (λ o. symbol_of_upper w.symbol y (sym upper ∙ o), λ q. upper ∙ ap upper_of q)
+of_told e w y = (λ o. upper_same w.symbol y (sym upper ∙ o), λ q. upper ∙ ap upper_of q)
   where
     upper : e.kind / 16 ≡ upper_of w.symbol
     upper = omega (arith, w.halves, w.least, w.most, longest_four w.symbol)
-
-    symbol_of_upper : (x z : Symbol) → upper_of x ≡ upper_of z → x ≡ z
-    symbol_of_upper x z q =
-        of_kinds (sym (kind_with_law x 1 (omega arith) (longest_one x)) ∙ (ap (λ (u : ℕ). kind_with u 1) q ∙ kind_with_law z 1 (omega arith) (longest_one z)))
-      where
-        of_kinds : Known x 1 ≡ Known z 1 → x ≡ z
-        of_kinds k = cc
 
 -- ---- what is spelled is read, and what is read is spelled
 

@@ -7,69 +7,44 @@
 ghost use Rattle.std.specs.Prelude.{◌≡◌, ◌≤◌, ◌<◌, length};
 ghost use Rattle.utf8.specs.Utf8.{char_bytes, low_second, high_second, continues, rest_fits, char_len, is_utf8, is_char};
 
-use decimal::cut;
-
 // How many bytes a code point has that begins with b, or 0.
 fn char_bytes(b: u8) -> usize
     ensures { (result ≡ char_bytes b) × (result ≤ 4) }
 {
-    if b < 0x80 {
-        return 1;
+    match b {
+        0x00..=0x7F => 1,
+        0xC2..=0xDF => 2,
+        0xE0..=0xEF => 3,
+        0xF0..=0xF4 => 4,
+        _ => 0,
     }
-    if b < 0xC2 {
-        return 0;
-    }
-    if b < 0xE0 {
-        return 2;
-    }
-    if b < 0xF0 {
-        return 3;
-    }
-    if b < 0xF5 {
-        return 4;
-    }
-    0
 }
 
 fn low_second(b: u8) -> u8
     ensures { result ≡ low_second b }
 {
-    if b == 0xE0 {
-        return 0xA0;
+    match b {
+        0xE0 => 0xA0,
+        0xF0 => 0x90,
+        _ => 0x80,
     }
-    if b == 0xF0 {
-        return 0x90;
-    }
-    0x80
 }
 
 fn high_second(b: u8) -> u8
     ensures { result ≡ high_second b }
 {
-    if b == 0xED {
-        return 0x9F;
+    match b {
+        0xED => 0x9F,
+        0xF4 => 0x8F,
+        _ => 0xBF,
     }
-    if b == 0xF4 {
-        return 0x8F;
-    }
-    0xBF
 }
 
 // Whether the bytes of s are from 80 to BF.
 fn all_continue(s: &[u8]) -> bool
     ensures { result ≡ continues s.now }
 {
-    let mut i = 0;
-    while i < s.len() {
-        if s[i] < 0x80 {
-            return false;
-        }
-        if 0xBF < s[i] {
-            return false;
-        }
-        i += 1;
-    }
-    true
+    s.iter().all(|b| matches!(b, 0x80..=0xBF))
 }
 
 // Whether the bytes s may stand behind the first byte b.
@@ -77,47 +52,35 @@ fn rest_fits(b: u8, s: &[u8]) -> bool
     requires { 0 < length s.now }
     ensures { result ≡ rest_fits b s.now }
 {
-    if s[0] < low_second(b) {
-        return false;
-    }
-    if high_second(b) < s[0] {
-        return false;
-    }
-    all_continue(cut::after(s, 1))
+    low_second(b) <= s[0] && s[0] <= high_second(b) && all_continue(&s[1..])
 }
 
 // How many bytes the code point has that s begins with, or 0.
 pub fn char_len(s: &[u8]) -> usize
     ensures { (result ≡ char_len s.now) × (result ≤ length s.now) }
 {
-    if s.len() == 0 {
+    let Some(&b) = s.first() else {
         return 0;
-    }
-    let b = s[0];
+    };
     let n = char_bytes(b);
-    if s.len() < n {
-        return 0;
+    if n <= s.len() && (n < 2 || rest_fits(b, &s[1..n])) {
+        n
+    } else {
+        0
     }
-    if n < 2 {
-        return n;
-    }
-    if rest_fits(b, cut::upto(cut::after(s, 1), n - 1)) {
-        return n;
-    }
-    0
 }
 
 // Whether s is code points one after the other.
 pub fn is_utf8(s: &[u8]) -> bool
     ensures { result ≡ is_utf8 s.now }
 {
-    let mut i = 0;
-    while i < s.len() {
-        let n = char_len(cut::after(s, i));
+    let mut rest = s;
+    while !rest.is_empty() {
+        let n = char_len(rest);
         if n == 0 {
             return false;
         }
-        i += n;
+        rest = &rest[n..];
     }
     true
 }
@@ -126,8 +89,5 @@ pub fn is_utf8(s: &[u8]) -> bool
 pub fn is_char(s: &[u8]) -> bool
     ensures { result ≡ is_char s.now }
 {
-    if s.len() == 0 {
-        return false;
-    }
-    char_len(s) == s.len()
+    !s.is_empty() && char_len(s) == s.len()
 }

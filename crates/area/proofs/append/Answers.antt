@@ -6,18 +6,18 @@ use lib.Seq.{drop-cons}
 use Rattle.area.proofs.Pieces.{start, again, done}
 use Rattle.area.proofs.append.Goals as goal
 
-pub loop-i-init : goal.loop-i-init
-loop-i-init c = (omega arith, omega arith, omega arith, start _ _ _)
+pub loop-b-init : goal.loop-b-init
+loop-b-init c = (omega arith, omega arith, start _ _ _)
 
-pub loop-i-preserved : goal.loop-i-preserved
-loop-i-preserved c =
+pub loop-b-preserved : goal.loop-b-preserved
+loop-b-preserved c =
     let s = c.args.s.now in
-    let h = c.loop-i-test.true in
-    let p = c.put-k.ensures in
-    (omega arith, omega (arith, p.next), c.loop-i.invariant.2, again c.loop-i.invariant.2 c.loop-i.invariant.3 (rw (add-one, drop-cons s c.loop-i.i 0 h)) p)
+    let l = c.loop-b in
+    let p = c.put-next.ensures in
+    (omega (arith, p.next), l.invariant.1, again l.invariant.1 l.invariant.2 (rw (add-one, drop-cons s l.b-index 0 c.loop-b-test.true)) p)
 
 pub shape_of-out : goal.shape_of-out
-shape_of-out c = c.loop-i.invariant.3.size
+shape_of-out c = c.loop-b.invariant.2.size
 
 pub returns : goal.returns
-returns c = done c.loop-i.invariant.1 c.loop-i.invariant.3 (drop_of_length-le _ c.loop-i-test.false)
+returns c = done c.loop-b.invariant.0 c.loop-b.invariant.2 (drop_of_length-le _ c.loop-b-test.false)

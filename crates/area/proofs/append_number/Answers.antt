@@ -9,7 +9,7 @@ pub returns : goal.returns
 returns c =
     let w = c.write_figures in
     let z = c.leading_zeros in
-    let k = c.fewer-zeros in
+    let k = c.min-zeros in
     let a = c.after in
     let n = c.args.n in
     let e : a.result.now ≡ numeral n = a.ensures ∙ shown_figures wide n 1 w.new.out z.result k.result w.ensures z.ensures.0 k.ensures in

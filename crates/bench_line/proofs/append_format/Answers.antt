@@ -15,17 +15,17 @@ blank = replicate max_output 0
 blank-length : length blank ≡ max_output
 blank-length = length-replicate {A = ℕ} max_output 0
 
-pub returns-in-Text : goal.returns-in-Text
-returns-in-Text c =
+pub returns-in-Ok : goal.returns-in-Ok
+returns-in-Ok c =
     let a = c.args in
-    let p = c.print-printed in
+    let p = c.print in
     let o = outcome [] a.pattern.now a.number.now in
-    let u = c.upto.ensures ∙ ap (take c.in-Text.n) p.ensures.out_after in
-    renamed (ap printed_text u ∙ text_answer o blank c.in-Text.n p.result blank-length p.ensures.value c.in-Text.is) c.append_text.ensures
+    let u = c.upto.ensures ∙ ap (take c.in-Ok.n) p.ensures.out_after in
+    renamed (ap printed_text u ∙ text_answer o blank c.in-Ok.n p.result blank-length p.ensures.value c.in-Ok.is) c.append_text.ensures
 
-pub returns-in-Refused : goal.returns-in-Refused
-returns-in-Refused c =
+pub returns-in-Err : goal.returns-in-Err
+returns-in-Err c =
     let a = c.args in
-    let p = c.print-printed in
+    let p = c.print in
     let o = outcome [] a.pattern.now a.number.now in
-    renamed (refused_answer o blank c.in-Refused.refusal p.result blank-length p.ensures.value c.in-Refused.is) c.append_refusal.ensures
+    renamed (refused_answer o blank c.in-Err.refusal p.result blank-length p.ensures.value c.in-Err.is) c.append_refusal.ensures

@@ -11,7 +11,7 @@ use Rattle.bench_line.proofs.append_refusal.Goals as goal
 
 pub returns : goal.returns
 returns c =
-    let w = c.wide_byte.ensures in
+    let w = c.from.ensures in
     let n = c.number.ensures in
     let f = figures_told c.figures.result c.args.refusal c.figures.ensures in
     let p1 = c.put-name.ensures in

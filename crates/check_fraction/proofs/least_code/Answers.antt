@@ -29,7 +29,7 @@ loop-k-preserved c =
     let T = table_of a.pack.now in
     let x = joined_in T a.s in
     let d = bounded a.b x in
-    (omega (arith, c.loop-k-test.true), part_more d c.loop-k.best c.tail_code.result c.lesser-best.result c.loop-k.k c.loop-k.invariant.1 c.tail_code.ensures c.lesser-best.ensures)
+    (omega (arith, c.loop-k-test.true), part_more d c.loop-k.best c.tail_code.result c.min-best.result c.loop-k.k c.loop-k.invariant.1 c.tail_code.ensures c.min-best.ensures)
 
 pub returns : goal.returns
 returns c =

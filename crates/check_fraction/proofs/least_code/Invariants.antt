@@ -2,7 +2,7 @@
 use Rattle.pack_rules.specs.Stretch.{table_of}
 use Rattle.check_laws.specs.Read.{joined_in}
 use Rattle.check_laws.specs.Bounded.{bounded}
-use Prim.Native.Nat.{◌≤◌, ◌-◌}
+use Prim.Native.Nat.{◌≤◌}
 use mathlib.Core.Path.{◌≡◌}
 use Rattle.number.specs.Limits.{max_places}
 use Rattle.check_laws.specs.Fast.{part_code}
@@ -10,6 +10,3 @@ use Rattle.check_fraction.proofs.least_code.Given as goal
 
 abbrev pub invariant-loop-k : goal.invariant-loop-k
 invariant-loop-k l = (l.k ≤ max_places) × (l.best ≡ part_code l.k (bounded l.b (joined_in (table_of l.pack) l.s)))
-
-abbrev pub decreases-loop-k : goal.decreases-loop-k
-decreases-loop-k l = max_places - l.k

@@ -11,6 +11,3 @@ returns-then-are_plain c =
     let a = c.args in
     let l = sym c.are_plain.ensures ∙ c.if-are_plain.true in
     renamed (sym (plain_rendered (symbol_in a.house.now standard_record) false false a.s.now l)) c.append.ensures
-
-pub returns : goal.returns
-returns c = c.append_items.ensures

@@ -6,5 +6,5 @@ use Rattle.layout.proofs.append_minus.Goals as goal
 pub returns-then-on : goal.returns-then-on
 returns-then-on c = rw c.if-on.true c.append_symbol.ensures
 
-pub returns : goal.returns
-returns c = rw c.if-on.false (nothing _ _ (omega arith))
+pub returns-else-on : goal.returns-else-on
+returns-else-on c = rw c.if-on.false (nothing _ _ (omega arith))

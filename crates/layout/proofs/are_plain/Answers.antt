@@ -1,22 +1,13 @@
--- `layout::are_plain` looks at each byte. The invariant: the answer for the bytes still to come is the whole answer.
-use native.Mathlib.Omega.{arith}
-use mathlib.Core.Path.{sym, ◌∙◌}
-use Rattle.layout.proofs.Plain.{plain_more, plain_end, plain_out}
+-- `layout::are_plain` asks of each byte what the definition asks.
+use mathlib.Core.Path.{◌∙◌}
+use Rattle.std.proofs.Common.{rules, tests}
+use Rattle.std.proofs.lemmas.Iterator.{YieldsList-from_slice}
+use Rattle.std.proofs.lemmas.Iterator.Search.{all_from_yields_List}
+use Rattle.layout.specs.Plain.{is_plain}
+use Rattle.layout.proofs.Plain.{plain_all}
 use Rattle.layout.proofs.are_plain.Goals as goal
-
-pub loop-i-preserved : goal.loop-i-preserved
-loop-i-preserved c =
-    let s = c.args.s.now in
-    let l = c.loop-i in
-    (omega arith, sym (plain_more s l.i c.loop-i-test.true (sym c.is_plain.ensures ∙ c.if-is_plain.true)) ∙ l.invariant.1)
-
-pub returns-else-is_plain : goal.returns-else-is_plain
-returns-else-is_plain c =
-    let s = c.args.s.now in
-    let l = c.loop-i in
-    sym (plain_end s l.i c.loop-i-test.true (sym c.is_plain.ensures ∙ c.if-is_plain.false)) ∙ l.invariant.1
 
 pub returns : goal.returns
 returns c =
-    let l = c.loop-i in
-    sym (plain_out c.args.s.now l.i c.loop-i-test.false) ∙ l.invariant.1
+    all_from_yields_List is_plain _ _ _ c.all.ensures.ran (YieldsList-from_slice c.args.s.now cc) (λ x b q k. search (rules, tests))
+    ∙ plain_all c.args.s.now

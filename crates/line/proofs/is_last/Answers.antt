@@ -1,9 +1,14 @@
--- `line::is_last` answers its definition, test by test.
-use borrow.Author.Tests.{lt-ltb, le-ltb}
+-- `line::is_last`: behind the first field's TAB no other stands.
+use mathlib.Core.Path.{◌∙◌, ap}
+use mathlib.Core.Bool.{not}
+use Prim.Native.Nat.{◌+◌}
+use lib.ListN.{drop}
+use borrow.Author.Tests.{lt-ltb}
+use Rattle.line.proofs.Fields.{from_place, no_more_tabs}
 use Rattle.line.proofs.is_last.Goals as goal
 
-pub returns-then-s-n : goal.returns-then-s-n
-returns-then-s-n c = simp (le-ltb _ _ c.if-s-n.true)
-
-pub returns : goal.returns
-returns c = simp (lt-ltb _ _ c.if-s-n.false, c.run_until.ensures.0, c.after-second.ensures)
+pub returns-then-n-s : goal.returns-then-n-s
+returns-then-n-s c =
+    let s = c.args.s.now in
+    let e = rw (from_place s (c.args.n + 1)) at c.contains.ensures.value in
+    rw (lt-ltb _ _ c.if-n-s.true) (ap not e ∙ no_more_tabs (drop (c.args.n + 1) s))

@@ -1,16 +1,18 @@
 -- `line::read_job` tells the job of a line from its letter and the lengths of its fields (Fields.antt).
-use mathlib.Core.Path.{sym}
-use Rattle.line.proofs.Fields.{short_line, no_tab, job_told}
+use mathlib.Core.Path.{◌≡◌, sym}
+use native.Mathlib.Omega.{arith}
+use lib.ListN.{get_or}
+use Rattle.line.proofs.Fields.{short_line, job_told, from_place}
 use Rattle.line.proofs.read_job.Goals as goal
 
-pub returns-then-line-lt2 : goal.returns-then-line-lt2
-returns-then-line-lt2 c = sym (short_line c.args.line.now c.if-line-lt2.true)
-
-pub returns-then-line-ne9 : goal.returns-then-line-ne9
-returns-then-line-ne9 c = sym (no_tab c.args.line.now c.if-line-lt2.false c.if-line-ne9.true)
-
-pub returns : goal.returns
-returns c =
+pub returns-in-9 : goal.returns-in-9
+returns-in-9 c =
     let line = c.args.line.now in
-    let t = job_told line c.if-line-lt2.false c.if-line-ne9.false in
-    rw (c.job_with.ensures, c.is_last.ensures, c.run_until-n.ensures.0, c.after-rest.ensures) t
+    let tab : get_or line 1 0 ≡ 9 = omega arith in
+    let n = rw (from_place line 2) at c.run_until-n.ensures.0 in
+    let i = rw (from_place line 2) at c.is_last.ensures in
+    let j = rw (from_place line 2) at c.job_with.ensures in
+    rw (j, i, n) (job_told line c.in-9.len_at_least tab)
+
+pub returns-in_default : goal.returns-in_default
+returns-in_default c = sym (short_line c.args.line.now c.in_default.len_below)

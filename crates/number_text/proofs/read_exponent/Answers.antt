@@ -1,16 +1,13 @@
 -- `number_text::read_exponent` answers what is read behind the fraction.
-use mathlib.Core.Path.{sym, ◌∙◌}
-use Rattle.number_text.proofs.Cuts.{tail_cut}
+use Rattle.std.proofs.Common.{rules}
+use Rattle.number_text.proofs.Cuts.{behind_first}
 use Rattle.number_text.proofs.read_exponent.Goals as goal
-
-pub returns-then-is_tail : goal.returns-then-is_tail
-returns-then-is_tail c =
-    let a = c.args in
-    let l = sym c.is_tail.ensures ∙ c.if-is_tail.true in
-    rw (tail_cut a.negative a.whole.now a.fraction.now a.s.now, l) (rw c.after.ensures at c.parted.ensures)
+use Rattle.number_text.proofs.read_exponent.Goals.{in-empty, in-len1-up}
 
 pub returns : goal.returns
 returns c =
-    let a = c.args in
-    let l = sym c.is_tail.ensures ∙ c.if-is_tail.false in
-    rw (tail_cut a.negative a.whole.now a.fraction.now a.s.now, l) c.refuse.ensures
+    let e = behind_first c.args.s.now in
+    elim c.if-s-lt1.branch [
+      | in-empty w ↦ (let h = w.exponent-is in search rules)
+      | in-len1-up w ↦ (let h = rw (w.exponent-is, e) at c.parted.ensures in let k = rw e at w.is_exponent.ensures in search rules)
+    ]

@@ -5,36 +5,36 @@ use Rattle.pattern_affix.proofs.Scans.{passed_start, passed_end, passed_again, p
 use borrow.Author.Rules.{rules}
 use Rattle.pattern_affix.proofs.affix_of.Goals as goal
 
-pub loop-i-init : goal.loop-i-init
-loop-i-init c = (search rules, passed_start c.args.s.now)
+pub loop-len-init : goal.loop-len-init
+loop-len-init c = (search rules, passed_start c.args.s.now)
 
 pub returns-then-ends_affix : goal.returns-then-ends_affix
 returns-then-ends_affix c =
     let s = c.args.s.now in
-    let l = c.loop-i in
-    let t = c.token_in-t in (
-      passed_end s l.quoted l.number l.i l.invariant.1
-          (affix_end s l.i l.quoted l.number c.loop-i-test.true t.result t.ensures.value (sym c.ends_affix.ensures ∙ c.if-ends_affix.true)),
+    let l = c.loop-len in
+    let t = c.token_in-item in (
+      passed_end s l.quoted l.number l.len l.invariant.1
+          (affix_end s l.len l.quoted l.number c.loop-len-test.true t.result t.ensures.value (sym c.ends_affix.ensures ∙ c.if-ends_affix.true)),
       search rules,
     )
 
-pub overflow_add-i : goal.overflow_add-i
-overflow_add-i c = omega (arith, c.token_in-t.ensures.le_width c.loop-i-test.true)
+pub overflow_add-len : goal.overflow_add-len
+overflow_add-len c = omega (arith, c.token_in-item.ensures.le_width c.loop-len-test.true)
 
-pub loop-i-smaller : goal.loop-i-smaller
-loop-i-smaller c = omega (arith, c.token_in-t.ensures.le_width c.loop-i-test.true)
+pub loop-len-smaller : goal.loop-len-smaller
+loop-len-smaller c = omega (arith, c.token_in-item.ensures.le_width c.loop-len-test.true)
 
-pub loop-i-preserved : goal.loop-i-preserved
-loop-i-preserved c =
+pub loop-len-preserved : goal.loop-len-preserved
+loop-len-preserved c =
     let s = c.args.s.now in
-    let l = c.loop-i in
-    let t = c.token_in-t in (
-      omega (arith, t.ensures.le_width c.loop-i-test.true),
-      passed_again s l.i l.quoted l.number c.loop-i-test.true t.result t.ensures.value _ _ c.quoted_after-quoted.ensures c.is_number-number.ensures
+    let l = c.loop-len in
+    let t = c.token_in-item in (
+      omega (arith, t.ensures.le_width c.loop-len-test.true),
+      passed_again s l.len l.quoted l.number c.loop-len-test.true t.result t.ensures.value _ _ c.quoted_after-quoted.ensures c.is_number-number.ensures
           (sym c.ends_affix.ensures ∙ c.if-ends_affix.false) l.invariant.1,
     )
 
 pub returns : goal.returns
 returns c =
-    let l = c.loop-i in
-    (passed_out c.args.s.now l.quoted l.number l.i l.invariant.1 c.loop-i-test.false, search rules)
+    let l = c.loop-len in
+    (passed_out c.args.s.now l.quoted l.number l.len l.invariant.1 c.loop-len-test.false, search rules)

@@ -4,8 +4,8 @@ use lib.ListN.{length}
 use Rattle.pattern_affix.proofs.Scans.{Passed}
 use Rattle.pattern_affix.proofs.affix_of.Given as goal
 
-abbrev pub invariant-loop-i : goal.invariant-loop-i
-invariant-loop-i l = (l.i ≤ length l.s) × Passed l.s l.quoted l.number l.i
+abbrev pub invariant-loop-len : goal.invariant-loop-len
+invariant-loop-len l = (l.len ≤ length l.s) × Passed l.s l.quoted l.number l.len
 
-abbrev pub decreases-loop-i : goal.decreases-loop-i
-decreases-loop-i l = length l.s - l.i
+abbrev pub decreases-loop-len : goal.decreases-loop-len
+decreases-loop-len l = length l.s - l.len

@@ -1,22 +1,29 @@
--- `print::print` judges the symbols, and refuses them or goes on to the pattern.
-use mathlib.Core.Path.{refl, sym, ◌∙◌}
+-- `print::print` reads symbols, pattern and number, each of which may be refused, and prints the number.
+use mathlib.Core.Path.{◌≡◌, sym, ◌∙◌}
+use Rattle.std.specs.Prelude.{Ok}
+use Rattle.symbols.specs.Entries.{read_symbols}
+use Rattle.pattern_reader.specs.Reading.{read_pattern}
+use Rattle.number.specs.Reading.{read_number}
+use Rattle.print.proofs.Ready.{ready_within, ready_size}
 use Rattle.print.proofs.print.Goals as goal
 
-pub print_pattern-requires : goal.print_pattern-requires
-print_pattern-requires c = sym c.read_symbols-judged.ensures ∙ c.in-Good.is
-
-pub returns-in-Good : goal.returns-in-Good
-returns-in-Good c =
-    let e = sym c.read_symbols-judged.ensures ∙ c.in-Good.is in
+pub print_number-requires : goal.print_number-requires
+print_number-requires c =
+    let a = c.args in
+    let es = sym c.read_symbols.ensures ∙ c.in_ok-read_symbols.was in
+    let ep = sym c.read_pattern.ensures ∙ c.in_ok-p.was in
+    let en = sym c.read_number.ensures ∙ c.in_ok-n.was in
     record {
-      value = rw e c.print_pattern.ensures.value;
-      out_after = rw e c.print_pattern.ensures.out_after;
+      f_value = ready_within a.pattern.now a.number.now c.in_ok-p.p c.in_ok-n.n ep en;
+      n_len_bound = ready_size a.symbols.now a.pattern.now c.in_ok-p.p c.in_ok-n.n es ep;
     }
 
-pub returns-in-Refused : goal.returns-in-Refused
-returns-in-Refused c =
-    let e = sym c.read_symbols-judged.ensures ∙ c.in-Refused.is in
+pub returns : goal.returns
+returns c =
+    let es = sym c.read_symbols.ensures ∙ c.in_ok-read_symbols.was in
+    let ep = sym c.read_pattern.ensures ∙ c.in_ok-p.was in
+    let en = sym c.read_number.ensures ∙ c.in_ok-n.was in
     record {
-      value = rw e refl;
-      out_after = rw e refl;
+      value = rw (es, ep, en) c.print_number.ensures.value;
+      out_after = rw (es, ep, en) c.print_number.ensures.out_after;
     }

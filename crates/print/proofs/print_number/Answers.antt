@@ -24,10 +24,7 @@ pub returns : goal.returns
 returns c =
     let r = c.round_into in
     let e : r.new.d ≡ digits_of c.args.p c.args.n = digits_are c.args.p c.args.n (figures width 0) r.new.d refl c.requires.f_value r.ensures.d_after in
-    let x = rw e at c.write_digits.ensures.value in
-    let z = rw e at c.write_digits.ensures.out_after in
-    let y = rw x at c.told.ensures in
     record {
-      value = rw (le-ltb _ _ c.if-n-gt0.false) y;
-      out_after = rw (le-ltb _ _ c.if-n-gt0.false) z;
+      value = rw (le-ltb _ _ c.if-n-gt0.false) (rw e at c.write_digits.ensures.value);
+      out_after = rw (le-ltb _ _ c.if-n-gt0.false) (rw e at c.write_digits.ensures.out_after);
     }

@@ -42,8 +42,8 @@ returns-then-need-le-ROOM-clause-out_after c =
     let e = c.upto.ensures ∙ laid_aside t _ _ x.result n w c.if-need-le-ROOM.true in
     whole_text t a.out.now _ x.result _ n c.if-out-need.false (renamed e c.append.ensures)).1
 
-pub returns-clause-value : goal.returns-clause-value
-returns-clause-value c =
+pub returns-else-need-le-ROOM-clause-value : goal.returns-else-need-le-ROOM-clause-value
+returns-else-need-le-ROOM-clause-value c =
     (let a = c.args in
     let t = laid_out (symbol_in a.house.now standard_record) a.pattern.now a.p (affixes_of a.p a.negative) a.digits.now in
     let f = c.affixes_of-a.ensures in
@@ -51,8 +51,8 @@ returns-clause-value c =
     let w = rw f at x.ensures in
     whole_text t a.out.now _ x.result _ (needed t _ _ x.result c.requires w) c.if-out-need.false (rw f at c.write_text.ensures)).0
 
-pub returns-clause-out_after : goal.returns-clause-out_after
-returns-clause-out_after c =
+pub returns-else-need-le-ROOM-clause-out_after : goal.returns-else-need-le-ROOM-clause-out_after
+returns-else-need-le-ROOM-clause-out_after c =
     (let a = c.args in
     let t = laid_out (symbol_in a.house.now standard_record) a.pattern.now a.p (affixes_of a.p a.negative) a.digits.now in
     let f = c.affixes_of-a.ensures in

@@ -2,13 +2,10 @@
 use native.Mathlib.Omega.{arith}
 use Prim.Native.Nat.{◌-◌}
 use lib.ListN.{length}
-use Rattle.rounding.proofs.Arithmetic.{odd_none, odd_last}
+use Rattle.rounding.proofs.Arithmetic.{odd_last}
 use Rattle.rounding.proofs.odd_of.Goals as goal
 
-pub returns-then-d-eq0 : goal.returns-then-d-eq0
-returns-then-d-eq0 c = (odd_none c.args.d.now c.if-d-eq0.true, omega arith)
-
-pub returns : goal.returns
-returns c =
+pub returns-in-len1-up : goal.returns-in-len1-up
+returns-in-len1-up c =
     let d = c.args.d.now in
-    (odd_last d (length d - 1) c.digit.result (omega arith) c.digit.ensures.0, omega arith)
+    (odd_last d (length d - 1) c.digit_value.result (omega arith) c.digit_value.ensures, omega arith)

@@ -1,4 +1,4 @@
--- `rounding::round_word` works out the number of steps and writes the digits of their product.
+-- `rounding::round_word` multiplies the number of steps: the product is at most n and a step.
 use native.Mathlib.Omega.{arith}
 use Rattle.rounding.proofs.Arithmetic.{steps_below}
 use Rattle.rounding.proofs.round_word.Goals as goal
@@ -8,6 +8,3 @@ overflow_mul-steps_of c =
     let a = c.args in
     let p = c.requires in
     rw c.steps_of.ensures (omega (arith, steps_below a.step a.scaled a.n p.0, p))
-
-pub returns : goal.returns
-returns c = rw c.steps_of.ensures at c.write_figures.ensures

@@ -4,6 +4,3 @@ use Rattle.rounding.proofs.scale.Given as goal
 
 abbrev pub invariant-loop-i : goal.invariant-loop-i
 invariant-loop-i l = Scaling l.m l.c l.initial.d l.d l.over l.i
-
-abbrev pub decreases-loop-i : goal.decreases-loop-i
-decreases-loop-i l = l.i

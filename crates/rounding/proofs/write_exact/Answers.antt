@@ -7,17 +7,10 @@ use Rattle.decimal.specs.Digits.{figures}
 use Rattle.rounding.proofs.Arithmetic.{scaled_written, whole_room}
 use Rattle.rounding.proofs.write_exact.Goals as goal
 
-pub returns-then-rise-eq1 : goal.returns-then-rise-eq1
-returns-then-rise-eq1 c =
-    let a = c.args in
-    let n = a.i * a.unit + a.f in
-    let e : n ≡ n * a.rise = rw c.if-rise-eq1.true (omega arith) in
-    c.write_whole.ensures ∙ ap (figures (length a.d.now)) e
-
-pub returns : goal.returns
-returns c =
-    let a = c.args in
-    let k = length a.d.now in
+pub returns-then-x-ne1 : goal.returns-then-x-ne1
+returns-then-x-ne1 c =
+    let a = c.args.x in
+    let k = length c.args.d.now in
     let n = a.i * a.unit + a.f in
     let w = c.write_whole in
     let e : n * a.rise + 0 ≡ n * a.rise = omega arith in

@@ -11,12 +11,9 @@ overflow_mul-i c = omega (arith, (le-div_iff_mul-le c.requires.1).0 c.if-i-unit.
 pub overflow_add-i : goal.overflow_add-i
 overflow_add-i c = omega (arith, (le-div_iff_mul-le c.requires.1).0 c.if-i-unit.true, c.requires.4)
 
-pub returns-then-i-unit : goal.returns-then-i-unit
-returns-then-i-unit c = c.write_figures.ensures
-
-pub returns : goal.returns
-returns c =
+pub returns-else-i-unit : goal.returns-else-i-unit
+returns-else-i-unit c =
     let a = c.args in
     let k = length a.d.now in
-    let w = c.write_figures-2 in
+    let w = c.write_figures-else-i-unit in
     scaled_written k a.i a.unit a.f w.new.out c.scale.new.d (integer_room k a.i c.requires.0 c.requires.3) w.ensures c.scale.ensures

@@ -1,23 +1,18 @@
 -- `symbols::is_twice` answers whether a symbol stands twice. The invariant: the answer for the entries still to come is the whole answer.
-use native.Mathlib.Omega.{arith}
-use mathlib.Core.Path.{sym, ap, ◌∙◌}
-use Rattle.records.proofs.Walks.{turn, entries_end, entries_out, twice_found, twice_again}
-use Rattle.symbols.specs.Kinds.{length_of}
-use Rattle.symbols.specs.Entries.{twice}
+use mathlib.Core.Path.{◌≡◌, sym, ◌∙◌}
+use mathlib.Core.Bool.{Bool}
+use Rattle.std.specs.Prelude.{Option, None, Some, is_some}
+use Rattle.std.specs.Option.{option_map}
+use Rattle.records.proofs.Walks.{turn, twice_found, twice_again}
 use Rattle.symbols.proofs.is_twice.Goals as goal
 
-pub returns-then-h-eq0 : goal.returns-then-h-eq0
-returns-then-h-eq0 c = sym (ap twice (entries_end c.head_at-h.ensures c.if-h-eq0.true)) ∙ c.loop-i.invariant.1
+-- whether something is found is whether its bytes are
+some_there : {A B : Type 0} (f : A → B) {b : Bool} (r : Option A) → is_some r ≡ b → is_some (option_map f r) ≡ b
+some_there f None e = e
+some_there f (Some x) e = e
 
-pub returns-then-later : goal.returns-then-later
-returns-then-later c =
-    let f = rw c.after.ensures at c.locate-later.ensures.found in
-    sym (twice_found (turn c.head_at-h.ensures c.if-h-eq0.false) (sym f ∙ c.if-later.true)) ∙ c.loop-i.invariant.1
+pub returns-then-is_some : goal.returns-then-is_some
+returns-then-is_some c = sym (twice_found (turn c.in-Some.ensures) (sym c.locate.ensures.found ∙ some_there _ _ (sym c.is_some.ensures ∙ c.if-is_some.true))) ∙ c.loop-symbol.invariant
 
-pub loop-i-preserved : goal.loop-i-preserved
-loop-i-preserved c =
-    let f = rw c.after.ensures at c.locate-later.ensures.found in
-    (omega (arith, c.head_at-h.ensures.within), twice_again (turn c.head_at-h.ensures c.if-h-eq0.false) (sym f ∙ c.if-later.false) c.loop-i.invariant.1)
-
-pub returns : goal.returns
-returns c = sym (ap twice (entries_out length_of c.args.s.now c.loop-i.i c.loop-i-test.false)) ∙ c.loop-i.invariant.1
+pub loop-symbol-preserved : goal.loop-symbol-preserved
+loop-symbol-preserved c = twice_again (turn c.in-Some.ensures) (sym c.locate.ensures.found ∙ some_there _ _ (sym c.is_some.ensures ∙ c.if-is_some.false)) c.loop-symbol.invariant

@@ -1,5 +1,5 @@
 -- `check_digits::digits::any_reached`: one range more at each turn.
-use Prim.Native.Nat.{ℕ, ◌-◌}
+use Prim.Native.Nat.{ℕ}
 use Rattle.decimal.specs.Lists.{any}
 use Rattle.check_laws.specs.Profile.{reaches}
 use Rattle.check_digits.proofs.Rounds.{Gone}
@@ -7,6 +7,3 @@ use Rattle.check_digits.proofs.digits.any_reached.Given as goal
 
 abbrev pub invariant-loop-k : goal.invariant-loop-k
 invariant-loop-k l = Gone l.pack.low l.pack.high l.from (λ (d : ℕ). any (reaches d)) l.to l.k l.mask
-
-abbrev pub decreases-loop-k : goal.decreases-loop-k
-decreases-loop-k l = l.to - l.k

@@ -9,17 +9,8 @@ use Rattle.check_digits.proofs.digits.spared_digits.Goals as goal
 pub loop-d-init : goal.loop-d-init
 loop-d-init c = let a = c.args in (omega arith, so_far_none (λ (d : ℕ). spares a.m d (record { low = a.a; high = a.b })) 0 0 1 refl refl refl)
 
-pub is_spared-requires : goal.is_spared-requires
-is_spared-requires c = c.loop-d-test.true
-
 pub with_bit-mask-requires : goal.with_bit-mask-requires
 with_bit-mask-requires c = let a = c.args in let l = c.loop-d in (so_far_lt (λ (d : ℕ). spares a.m d (record { low = a.a; high = a.b })) l.d l.mask l.place l.invariant.1, let z = so_far_room (λ (d : ℕ). spares a.m d (record { low = a.a; high = a.b })) l.d l.mask l.place l.invariant.1 (omega (arith, c.loop-d-test.true)) in omega arith)
-
-pub overflow_mul-place : goal.overflow_mul-place
-overflow_mul-place c = let a = c.args in let l = c.loop-d in let z = so_far_room (λ (d : ℕ). spares a.m d (record { low = a.a; high = a.b })) l.d l.mask l.place l.invariant.1 (omega (arith, c.loop-d-test.true)) in omega arith
-
-pub loop-d-smaller : goal.loop-d-smaller
-loop-d-smaller c = omega (arith, c.loop-d-test.true)
 
 pub loop-d-preserved : goal.loop-d-preserved
 loop-d-preserved c = let a = c.args in let l = c.loop-d in (omega (arith, c.loop-d-test.true), so_far_more (λ (d : ℕ). spares a.m d (record { low = a.a; high = a.b })) l.d l.mask l.place l.invariant.1 _ _ _ c.is_spared.ensures c.with_bit-mask.ensures refl)

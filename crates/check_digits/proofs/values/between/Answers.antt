@@ -11,12 +11,6 @@ loop-v-init c = (omega arith, so_far_none (from_to c.args.b) 0 0 1 refl refl ref
 pub with_bit-mask-requires : goal.with_bit-mask-requires
 with_bit-mask-requires c = let a = c.args in let l = c.loop-v in (so_far_lt (from_to a.b) l.v l.mask l.place l.invariant.1, let z = so_far_room (from_to a.b) l.v l.mask l.place l.invariant.1 (omega (arith, c.loop-v-test.true)) in omega arith)
 
-pub overflow_mul-place : goal.overflow_mul-place
-overflow_mul-place c = let a = c.args in let l = c.loop-v in let z = so_far_room (from_to a.b) l.v l.mask l.place l.invariant.1 (omega (arith, c.loop-v-test.true)) in omega arith
-
-pub loop-v-smaller : goal.loop-v-smaller
-loop-v-smaller c = omega (arith, c.loop-v-test.true)
-
 pub loop-v-preserved : goal.loop-v-preserved
 loop-v-preserved c = let a = c.args in let l = c.loop-v in (omega (arith, c.loop-v-test.true), so_far_more (from_to a.b) l.v l.mask l.place l.invariant.1 _ _ _ c.is_between-on.ensures c.with_bit-mask.ensures refl)
 

@@ -24,9 +24,9 @@ pub overflow_add-result : goal.overflow_add-result
 overflow_add-result c =
     let a = c.args in
     let p = c.requires in
-    omega (arith, mod-le a.x a.m, p.3, wrap_small a.table.now.starts a.table.now.ends p.4 a.m p.2 a.from a.to c.up_to-o.result c.wrap_round.result (up_to_small a.table.now.starts a.table.now.ends p.4 a.m p.2 p.5 a.from a.to (a.x % a.m) c.less_by.result c.up_to-o.result c.up_to-o.ensures) c.wrap_round.ensures)
+    omega (arith, mod-le a.x a.m, p.3, wrap_small a.table.now.starts a.table.now.ends p.4 a.m p.2 a.from a.to c.up_to-o.result c.wrap_round.result (up_to_small a.table.now.starts a.table.now.ends p.4 a.m p.2 p.5 a.from a.to (a.x % a.m) c.saturating_sub.result c.up_to-o.result c.up_to-o.ensures) c.wrap_round.ensures)
 
 pub returns : goal.returns
 returns c =
     let a = c.args in
-    climb_made a.table.now.starts a.table.now.ends a.from a.to a.m a.x a.y (omega arith) c.less_by.result c.up_to-o.result c.wrap_round.result c.less_by.ensures c.up_to-o.ensures c.wrap_round.ensures
+    climb_made a.table.now.starts a.table.now.ends a.from a.to a.m a.x a.y (omega arith) c.saturating_sub.result c.up_to-o.result c.wrap_round.result c.saturating_sub.ensures c.up_to-o.ensures c.wrap_round.ensures

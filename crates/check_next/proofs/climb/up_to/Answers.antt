@@ -8,7 +8,7 @@ pub loop-k-init : goal.loop-k-init
 loop-k-init c = refl
 
 pub loop-k-preserved : goal.loop-k-preserved
-loop-k-preserved c = let a = c.args in let l = c.loop-k in up_skip a.table.now.starts a.table.now.ends l.k a.to a.m a.r a.z (omega (arith, c.loop-k-test.true)) (omega (arith, c.wide.ensures, c.if-r-wide.false)) ∙ l.invariant
+loop-k-preserved c = let a = c.args in let l = c.loop-k in up_skip a.table.now.starts a.table.now.ends l.k a.to a.m a.r a.z (omega (arith, c.loop-k-test.true)) (omega (arith, c.from.ensures, c.if-r-from.false)) ∙ l.invariant
 
 pub returns : goal.returns
 returns c = let a = c.args in let l = c.loop-k in up_end a.table.now.starts a.table.now.ends l.k a.to a.m a.r a.z (omega (arith, c.loop-k-test.false)) ∙ l.invariant

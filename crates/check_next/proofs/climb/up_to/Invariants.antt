@@ -1,5 +1,4 @@
 -- `check_next::climb::up_to` passes over the segments that end before r. Invariant: the answer is that of the segments left.
-use Prim.Native.Nat.{◌-◌}
 use mathlib.Core.Path.{◌≡◌}
 use Rattle.check_laws.specs.Segments.{up_to}
 use Rattle.check_next.specs.Table.{segments_in}
@@ -7,6 +6,3 @@ use Rattle.check_next.proofs.climb.up_to.Given as goal
 
 abbrev pub invariant-loop-k : goal.invariant-loop-k
 invariant-loop-k l = up_to (segments_in l.table.starts l.table.ends l.k l.to) l.m l.r l.z ≡ up_to (segments_in l.table.starts l.table.ends l.from l.to) l.m l.r l.z
-
-abbrev pub decreases-loop-k : goal.decreases-loop-k
-decreases-loop-k l = l.to - l.k

@@ -26,7 +26,7 @@ returns c =
     let a = c.args in
     let f = c.factor_of-k in
     let l = c.level_of-l in
-    let e = rw c.wide.ensures at l.ensures.value in
+    let e = rw c.from.ensures at l.ensures.value in
     record {
       tier = λ low high. tier_asked a.q (relation_by low high a.s) f.result f.ensures l.result c.if-k-eq0.false e;
       noted = λ low high. noted_at a.q (relation_by low high a.s) f.result f.ensures c.mark.new.marks.asked l.result e c.mark.ensures.marked;

@@ -1,9 +1,0 @@
--- `pattern_number::seen_after` answers its definition, test by test.
-use borrow.Author.Tests.{eq-eqb, ne_eqb}
-use Rattle.pattern_number.proofs.seen_after.Goals as goal
-
-pub returns-then-b-eq44 : goal.returns-then-b-eq44
-returns-then-b-eq44 c = rw (eq-eqb _ _ c.if-b-eq44.true)
-
-pub returns : goal.returns
-returns c = rw (ne_eqb _ _ c.if-b-eq44.false) c.is_digit.ensures

@@ -1,9 +1,0 @@
--- `pattern_reader::has_same_marks` answers its definition, test by test.
-use borrow.Author.Tests.{eq-eqb, ne_eqb}
-use Rattle.pattern_reader.proofs.has_same_marks.Goals as goal
-
-pub returns-then-a-b : goal.returns-then-a-b
-returns-then-a-b c = rw (eq-eqb _ _ c.if-a-b.true)
-
-pub returns : goal.returns
-returns c = rw (ne_eqb _ _ c.if-a-b.false)
