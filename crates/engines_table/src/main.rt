@@ -12,9 +12,8 @@ ghost use Rattle.engines_table.specs.Same.{same_pair, same_number, same_clash, s
 use answer::{Pair, Refusal, Witness};
 use check_laws::Checked;
 use pack_rules::Pack;
-use pack_verdict::Read;
 use std::io;
-use std::io::Read as _;
+use std::io::Read;
 
 // What the two engines answer for one pack.
 #[derive(Clone, Copy)]
@@ -156,18 +155,11 @@ fn print_refusal(rt: &impl Print, r: Refusal) -> io::Result<()> {
     print_text(rt, b"\n")
 }
 
-fn print_check(rt: &impl Print, pack: &[u8]) -> io::Result<()> {
+fn print_check(rt: &impl Print, text: &[u8]) -> io::Result<()> {
     let mut pack = pack_rules::empty();
-    let read = pack_reader::read_pack(
-        pack,
-        &mut pack,
-    );
-    match read {
-        Ok(count) => print_answers(
-            rt,
-            ask_both(&pack),
-        ),
-        Err(x) => print_refusal(rt, x),
+    match pack_reader::read_pack(text, &mut pack) {
+        Ok(()) => print_answers(rt, ask_both(&pack)),
+        Err(refusal) => print_refusal(rt, refusal),
     }
 }
 

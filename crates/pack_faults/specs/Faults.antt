@@ -1,11 +1,14 @@
 -- Which of 22 to 26 a token falls under, and the first fault.
-use Rattle.std.specs.Prelude.{Bool, true, false, List, [], ◌∷◌, ℕ, min, eqb, ltb, if◌then◌else◌}
+use Rattle.std.specs.Prelude.{Bool, true, false, List, [], ◌∷◌, ℕ, min, eqb, ltb, Option, None, Some, if◌then◌else◌}
 use Rattle.decimal.specs.Digits.{value}
 use Rattle.answer.specs.Words.{spelling}
 use Rattle.answer.specs.declared.Keyword.TheVariants.{Zero, One, Two, Few, Many, Other}
+use Rattle.answer.specs.declared.PackRow.{PackRow}
+use Rattle.answer.specs.declared.PackRow.TheVariants.{ValueTooLarge, RangeReversed, BadKeyword, TooMany}
 use Rattle.pack_token.specs.Spelling.{same}
 use Rattle.pack_grammar.specs.Limits.{max_clauses, max_relations, max_ranges, max_value}
 use Rattle.pack_grammar.specs.Grammar.{Text}
+use Rattle.pack_faults.specs.declared.Fault.{Fault}
 use Rattle.pack_faults.specs.declared.Mark.{Mark}
 
 -- ---- one token
@@ -30,27 +33,28 @@ abbrev pub held : ℕ → List ℕ → Bool
 held k [] = false
 held k (x ∷ xs) = if eqb x k then true else held k xs
 
--- ---- 22 to 26 of the token, else 0
+-- ---- 22 to 26 of the token, or none
 
-abbrev pub name_row : ℕ → Bool → ℕ
-name_row key again = if again then 25 else if ltb key 6 then 0 else 25
+abbrev pub name_row : ℕ → Bool → Option PackRow
+name_row key again = if again then Some BadKeyword else if ltb key 6 then None else Some BadKeyword
 
-abbrev pub operand_row : ℕ → ℕ → ℕ
-operand_row clauses relations = if ltb clauses max_clauses then (if ltb relations max_relations then 0 else 26) else 26
+abbrev pub operand_row : ℕ → ℕ → Option PackRow
+operand_row clauses relations = if ltb clauses max_clauses then (if ltb relations max_relations then None else Some TooMany) else Some TooMany
 
-abbrev pub value_row : ℕ → ℕ → ℕ
-value_row v values = if ltb max_value v then 22 else if ltb values max_ranges then 0 else 26
+abbrev pub value_row : ℕ → ℕ → Option PackRow
+value_row v values = if ltb max_value v then Some ValueTooLarge else if ltb values max_ranges then None else Some TooMany
 
-abbrev pub upper_row : ℕ → ℕ → ℕ
-upper_row v low = if ltb max_value v then 22 else if ltb v low then 24 else 0
+abbrev pub upper_row : ℕ → ℕ → Option PackRow
+upper_row v low = if ltb max_value v then Some ValueTooLarge else if ltb v low then Some RangeReversed else None
 
 -- ---- the first fault
 
+-- a fault so far stays; else that of the row at this place, if there is one
+abbrev pub fault_after : Option Fault → Option PackRow → ℕ → Option Fault
+fault_after (Some f) row at = Some f
+fault_after None (Some row) at = Some (record { row = row; at = record { 0 = at } })
+fault_after None None at = None
+
 -- the place of the last token before nothing could follow, and the first fault
-abbrev pub mark_after : Mark → ℕ → ℕ → ℕ → Mark
-mark_after m stop row at =
-    record {
-      stop = stop;
-      row = if eqb m.row 0 then row else m.row;
-      place = if eqb m.row 0 then at else m.place;
-    }
+abbrev pub mark_after : Mark → ℕ → Option PackRow → ℕ → Mark
+mark_after m stop row at = record { stop = stop; fault = fault_after m.fault row at }

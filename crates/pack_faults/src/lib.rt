@@ -7,17 +7,23 @@ ghost use Rattle.std.specs.Prelude.{◌≡◌, take};
 ghost use Rattle.pack_grammar.specs.Limits.{is_modulus};
 ghost use Rattle.pack_faults.specs.Faults.{capped, keyword_number, held, name_row, operand_row, value_row, upper_row, mark_after};
 
+use answer::{PackRow, Place};
 use decimal::cut::upto;
 use decimal::value::value_of;
 use pack_grammar::{MAX_CLAUSES, MAX_RANGES, MAX_RELATIONS, MAX_VALUE};
 
-// The place of the last token before nothing could follow; the first fault's number, 0 for none, and
-// its place.
+// A row of 22 to 26 and the place where it falls.
+#[derive(Clone, Copy)]
+pub struct Fault {
+    pub row: PackRow,
+    pub at: Place,
+}
+
+// The place of the last token before nothing could follow, and the first fault.
 #[derive(Clone, Copy, Default)]
 pub struct Mark {
     pub stop: usize,
-    pub row: u8,
-    pub place: usize,
+    pub fault: Option<Fault>,
 }
 
 // The value of the token, exact up to 1,000,000.
@@ -48,19 +54,23 @@ pub fn held_before(keys: &[u8], n: usize, key: u8) -> bool
     upto(keys, n).contains(&key)
 }
 
-pub fn name_row(key: u8, again: bool) -> u8
+pub fn name_row(key: u8, again: bool) -> Option<PackRow>
     ensures { result ≡ name_row key again }
 {
-    if again || 6 <= key { 25 } else { 0 }
+    if again || 6 <= key {
+        Some(PackRow::BadKeyword)
+    } else {
+        None
+    }
 }
 
-pub fn operand_row(clauses: usize, relations: usize) -> u8
+pub fn operand_row(clauses: usize, relations: usize) -> Option<PackRow>
     ensures { result ≡ operand_row clauses relations }
 {
     if clauses < MAX_CLAUSES && relations < MAX_RELATIONS {
-        0
+        None
     } else {
-        26
+        Some(PackRow::TooMany)
     }
 }
 
@@ -70,40 +80,36 @@ pub fn is_modulus(m: u32) -> bool
     matches!(m, 10 | 100 | 1000 | 10_000 | 100_000 | 1_000_000)
 }
 
-pub fn value_row(v: u32, values: usize) -> u8
+pub fn value_row(v: u32, values: usize) -> Option<PackRow>
     ensures { result ≡ value_row v values }
 {
     if MAX_VALUE < v {
-        22
+        Some(PackRow::ValueTooLarge)
     } else if values < MAX_RANGES {
-        0
+        None
     } else {
-        26
+        Some(PackRow::TooMany)
     }
 }
 
-pub fn upper_row(v: u32, low: u32) -> u8
+pub fn upper_row(v: u32, low: u32) -> Option<PackRow>
     ensures { result ≡ upper_row v low }
 {
     if MAX_VALUE < v {
-        22
+        Some(PackRow::ValueTooLarge)
     } else if v < low {
-        24
+        Some(PackRow::RangeReversed)
     } else {
-        0
+        None
     }
 }
 
-pub fn mark_after(m: Mark, stop: usize, row: u8, at: usize) -> Mark
+pub fn mark_after(m: Mark, stop: usize, row: Option<PackRow>, at: usize) -> Mark
     ensures { result ≡ mark_after m stop row at }
 {
-    if m.row == 0 {
-        Mark {
-            stop,
-            row,
-            place: at,
-        }
-    } else {
-        Mark { stop, ..m }
+    let at = Place(at);
+    Mark {
+        stop,
+        fault: m.fault.or(row.map(|row| Fault { row, at })),
     }
 }

@@ -1,5 +1,6 @@
 pub mod Boards
 pub mod Flats
+pub mod Numbers
 pub mod Tally
 pub mod Levels
 pub mod Holds

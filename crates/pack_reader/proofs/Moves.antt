@@ -31,11 +31,12 @@ use Rattle.pack_phase.specs.declared.Phase.TheVariants.{Name, Colon, Nothing, Op
 use Rattle.pack_phase.proofs.Phases.{phase_of}
 use Rattle.pack_counts.specs.Counts.{counts_after, more_of}
 use Rattle.pack_counts.specs.declared.Counts.{Counts}
-use Rattle.pack_faults.specs.Faults.{capped, held, keyword_number, name_row, upper_row}
+use Rattle.pack_faults.specs.Faults.{capped, held, keyword_number}
 use Rattle.pack_walk.specs.Steps.{value_at, closes_at, key_after, current_after, row_at}
 use Rattle.pack_walk.specs.declared.Current.{Current}
 use Rattle.pack_reader.specs.Board.{Arrays, filled}
 use Rattle.pack_reader.proofs.Flats.{more_is}
+use Rattle.pack_reader.proofs.Numbers.{name_number, upper_number, number_at, row_if, row_number}
 use Rattle.pack_reader.proofs.Tally.{name_row_law, fresh}
 use Rattle.pack_reader.proofs.Holds.{HoldsAt, HeadIs, Keyed, FrontIs, Small, later, begun, add_value, add_upper, close_and, close_or, close_semi, close_bare}
 
@@ -62,7 +63,7 @@ modulus_exact t e =
     tested (ltb 1000000 (value t)) (λ k. not_both e (not_modulus (value t) (ltb-true 1000000 (value t) k)))
     (λ k. capped_exact t (ltb-false 1000000 (value t) k))
 
-upper_row_law : (t : Text) (low : ℕ) → upper_row (capped t) low ≡ upper_row (value t) low
+upper_row_law : (t : Text) (low : ℕ) → upper_number (capped t) low ≡ upper_number (value t) low
 upper_row_law t low =
     rw (capped_above t)
     (tested (ltb max_value (value t)) (λ e. rw e)
@@ -75,12 +76,19 @@ abbrev pub row_on : State → Counts → Current → Arrays → Text → ℕ
 row_on s c o a t =
     let p = phase_of s in
     let key = key_after p t o.key in
-    row_at p key (held key (take c.rules a.keyword)) (value_at p t) c o.low
+    number_at p key (held key (take c.rules a.keyword)) (value_at p t) c o.low
+
+-- it is the row that the code has
+pub row_on_number : (s : State) (c : Counts) (o : Current) (a : Arrays) (t : Text)
+    → row_at (phase_of s) (key_after (phase_of s) t o.key) (held (key_after (phase_of s) t o.key) (take c.rules a.keyword)) (value_at (phase_of s) t) c o.low ≡ row_if (row_on s c o a t)
+row_on_number s c o a t =
+    let key = key_after (phase_of s) t o.key in
+    row_number (phase_of s) key (held key (take c.rules a.keyword)) (value_at (phase_of s) t) c o.low
 
 -- ROW: 22 to 26 by the board are 22 to 26 by the state
 pub row_is : (d : List RuleTree) (s : State) (c : Counts) (o : Current) (a : Arrays) (at : ℕ) (t : Text) → HoldsAt d s c o a at
     → row_on s c o a t ≡ fault_on (record { rules = d; state = s }) t
-row_is d WantsName c o a at t h = ap (λ (l : List ℕ). name_row (keyword_number t) (held (keyword_number t) l)) h.kept.rules.keys ∙ name_row_law t (names d)
+row_is d WantsName c o a at t h = ap (λ (l : List ℕ). name_number (keyword_number t) (held (keyword_number t) l)) h.kept.rules.keys ∙ name_row_law t (names d)
 row_is d (WantsColon k) c o a at t h = refl
 row_is d (WantsNothing k) c o a at t h = refl
 row_is d (WantsOperand f) c o a at t h = rw (h.base.parted, h.base.joined)

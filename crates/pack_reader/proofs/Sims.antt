@@ -1,4 +1,5 @@
 -- The board goes with the definition, token by token; so the last board has the pack's answer and rules.
+use Rattle.answer.specs.declared.PackRow.{PackRow}
 use Rattle.answer.specs.declared.Refusal.{Refusal}
 use mathlib.Core.Path.{◌≡◌, refl, sym, ap, ◌∙◌, subst}
 use mathlib.Core.Bool.{Bool, true, false}
@@ -8,7 +9,7 @@ use native.Mathlib.Omega.{arith}
 use lib.Dec.{eqb, ltb}
 use lib.ListN.{length}
 use borrow.Author.Tests.{ltb-false, le-ltb}
-use Rattle.std.specs.Prelude.{Err, Ok, Result, if◌then◌else◌}
+use Rattle.std.specs.Prelude.{Err, Ok, Result, Option, Some, None as Absent, if◌then◌else◌}
 use Rattle.decimal.proofs.Choices.{choice, tested, not_both}
 use Rattle.pack_rules.specs.Syntax.{Relation}
 use Rattle.pack_rules.specs.declared.Pack.{Pack}
@@ -24,7 +25,7 @@ use Rattle.pack_grammar.specs.RuleOf.{rule_of}
 use Rattle.pack_grammar.specs.Steps.{Front, State, go_on, signed, step, Read, ends}
 use Rattle.pack_grammar.specs.Steps.State.{WantsName, WantsColon, WantsNothing, WantsOperand, HasOperand, WantsModulus, HasModulus, WantsValue, HasValue, WantsUpper, HasUpper, Dead as Died}
 use Rattle.pack_grammar.specs.Steps.Read.{Whole, Cut}
-use Rattle.pack_grammar.specs.Reader.{is_dead, Parsed, Fault, or_else, fault_at, PackAnswer, judge, read_pack}
+use Rattle.pack_grammar.specs.Reader.{is_dead, Parsed, Fault, or_else, fault_at, row_of, PackAnswer, judge, read_pack}
 use Rattle.pack_grammar.specs.Reader.PackAnswer.{Rules, Refused}
 use Rattle.pack_grammar.specs.Reader.Parsed.{Trees, Bad}
 use Rattle.pack_grammar.specs.Reader.Fault.{None, At}
@@ -39,6 +40,8 @@ use Rattle.pack_phase.specs.declared.Phase.{Phase}
 use Rattle.pack_phase.specs.declared.Phase.TheVariants.{Name, Dead}
 use Rattle.pack_phase.proofs.Phases.{phase_of, Flag, phase_on}
 use Rattle.pack_counts.specs.declared.Counts.{Counts}
+use Rattle.pack_faults.specs.Faults.{fault_after}
+use Rattle.pack_faults.specs.declared.Fault.{Fault as Found}
 use Rattle.pack_faults.specs.declared.Mark.{Mark}
 use Rattle.pack_walk.specs.Steps.{stop_after}
 use Rattle.pack_walk.specs.declared.Current.{Current}
@@ -50,7 +53,8 @@ use Rattle.pack_reader.specs.Bounds.{flat}
 use Rattle.pack_reader.proofs.Flats.{held_back}
 use Rattle.pack_reader.proofs.Tally.{no_tally}
 use Rattle.pack_reader.proofs.Holds.{HoldsAt, Base, Ds, Cs, Rs, Gs, numbers, none, closed_clauses}
-use Rattle.pack_reader.proofs.Moves.{row_on, row_is, move}
+use Rattle.pack_reader.proofs.Numbers.{row_if}
+use Rattle.pack_reader.proofs.Moves.{row_on, row_on_number, row_is, move}
 
 -- ---- the flag behind a token
 
@@ -86,28 +90,29 @@ flag_on p t = choice (λ (q : Far). Flag q.state (same t other)) (same t semi) (
 
 -- ---- one token
 
+-- a fault as the code has it
+abbrev as_fault : Fault → Option Found
+as_fault None = Absent
+as_fault (At n p) = Some (record { row = row_of n; at = record { 0 = p } })
+
 pub record Sim (b : Board) (p : Far) (f : Fault) (at : ℕ) : Type 0 where
   pub phase : b.walk.phase ≡ phase_of p.state
   pub flag : Flag p.state b.walk.current.other
-  pub fault : fault_at b.walk.mark.row b.walk.mark.place ≡ f
+  pub fault : b.walk.mark.fault ≡ as_fault f
   pub holds : f ≡ None → HoldsAt p.rules p.state b.walk.counts b.walk.current b.arrays at
 
 abbrev board_for : Far → Counts → Current → Mark → Arrays → Board
 board_for p c o m a = record { walk = record { phase = phase_of p.state; counts = c; current = o; mark = m }; arrays = a }
 
-fault_more : (row place : ℕ) (f : Fault) (n q : ℕ) → fault_at row place ≡ f
-    → fault_at (if eqb row 0 then n else row) (if eqb row 0 then q else place) ≡ or_else f (fault_at n q)
-fault_more row place f n q e = go (eqb row 0) refl e
-  where
-    go : (b : Bool) → eqb row 0 ≡ b → (if b then None else At row place) ≡ f → fault_at (if b then n else row) (if b then q else place) ≡ or_else f (fault_at n q)
-    go true k e = rw (sym e)
-    go false k e = rw (sym e, k)
+fault_more : (m : Option Found) (f : Fault) (n q : ℕ) → m ≡ as_fault f → fault_after m (row_if n) q ≡ as_fault (or_else f (fault_at n q))
+fault_more m None n q e = rw e (tested (eqb n 0) (λ k. rw k) (λ k. rw k))
+fault_more m (At x y) n q e = rw e
 
 same_row : (f : Fault) (n m q : ℕ) → (f ≡ None → n ≡ m) → or_else f (fault_at n q) ≡ or_else f (fault_at m q)
 same_row None n m q h = ap (λ (x : ℕ). fault_at x q) (h refl)
 same_row (At x y) n m q h = refl
 
-sim_at : (p : Far) (c : Counts) (o : Current) (m : Mark) (a : Arrays) (f : Fault) (at q : ℕ) (t : Text) → Flag p.state o.other → fault_at m.row m.place ≡ f
+sim_at : (p : Far) (c : Counts) (o : Current) (m : Mark) (a : Arrays) (f : Fault) (at q : ℕ) (t : Text) → Flag p.state o.other → m.fault ≡ as_fault f
     → (f ≡ None → HoldsAt p.rules p.state c o a at) → at ≤ q → q ≤ max_bytes
     → Sim (board_after (board_for p c o m a) t q) (onward p t) (or_else f (fault_at (fault_on p t) q)) (suc q)
 sim_at p c o m a f at q t g e h l k =
@@ -115,8 +120,9 @@ sim_at p c o m a f at q t g e h l k =
       phase = sym (phase_on p o.other t g);
       flag = flag_on p t;
       fault =
-          fault_more m.row m.place f (row_on p.state c o a t) q e
-          ∙ same_row f (row_on p.state c o a t) (fault_on p t) q (λ z. row_is p.rules p.state c o a at t (h z));
+          ap (λ (r : Option PackRow). fault_after m.fault r q) (row_on_number p.state c o a t)
+          ∙ fault_more m.fault f (row_on p.state c o a t) q e
+          ∙ ap as_fault (same_row f (row_on p.state c o a t) (fault_on p t) q (λ z. row_is p.rules p.state c o a at t (h z)));
       holds = λ z.
           move p.rules c o a at q l k p.state t (h (or_0 f (fault_at (fault_on p t) q) z)) (fault_none (fault_on p t) q (or_1 f (fault_at (fault_on p t) q) z));
     }
@@ -283,14 +289,11 @@ pub record Counted (a : PackAnswer) (v : Result ℕ Refusal) (p : Pack) : Type 0
   pub answer : v ≡ counted_of a
   pub rules : held_rules p ≡ rules_of a
 
--- a fault's row and place give the answer, and so does the count of rules where there is none
-by_fault : (row place n : ℕ) (f : Fault) (rs : List RuleTree) → fault_at row place ≡ f → (f ≡ None → n ≡ length (map rule_of rs))
-    → read_by row place n ≡ counted_of (judge (Trees rs) f)
-by_fault row place n f rs e h = go (eqb row 0) refl e
-  where
-    go : (b : Bool) → eqb row 0 ≡ b → (if b then None else At row place) ≡ f → read_by row place n ≡ counted_of (judge (Trees rs) f)
-    go true k e = rw (sym e, k) (ap Ok (h (sym e)))
-    go false k e = rw (sym e, k)
+-- a fault gives the answer, and so does the count of rules where there is none
+by_fault : (m : Option Found) (n : ℕ) (f : Fault) (rs : List RuleTree) → m ≡ as_fault f → (f ≡ None → n ≡ length (map rule_of rs))
+    → read_by m n ≡ counted_of (judge (Trees rs) f)
+by_fault m n None rs e h = rw e (ap Ok (h refl))
+by_fault m n (At x y) rs e h = rw e
 
 pub record Answered (b : Board) (p : Parsed) (f : Fault) : Type 0 where
   pub answer : judged b.walk ≡ counted_of (judge p f)
@@ -301,10 +304,10 @@ answered_bad b x f h =
     let v : judged b.walk ≡ counted_of (judge (Bad x) f) = rw (h.phase, h.stop) in
     record { answer = v; rules = rw v }
 
-answered_trees : (b : Board) (d rs : List RuleTree) (f : Fault) (at : ℕ) → b.walk.phase ≡ Name → fault_at b.walk.mark.row b.walk.mark.place ≡ f
+answered_trees : (b : Board) (d rs : List RuleTree) (f : Fault) (at : ℕ) → b.walk.phase ≡ Name → b.walk.mark.fault ≡ as_fault f
     → (f ≡ None → Base d none [] b.walk.counts b.arrays at) → rs ≡ d → Answered b (Trees rs) f
 answered_trees b d rs f at e g h q =
-    let v : judged b.walk ≡ counted_of (judge (Trees rs) f) = rw e (by_fault b.walk.mark.row b.walk.mark.place b.walk.counts.rules f rs g size) in
+    let v : judged b.walk ≡ counted_of (judge (Trees rs) f) = rw e (by_fault b.walk.mark.fault b.walk.counts.rules f rs g size) in
     record { answer = v; rules = rw v (go f refl) }
   where
     size : f ≡ None → b.walk.counts.rules ≡ length (map rule_of rs)
@@ -331,7 +334,7 @@ answered a s z l = go (halt outset (tokens 0 s) (length s)) refl (outcome (token
         let n = ended outset ts (length s) rs e in
         let y = whole_clean p.rules p.state n.0 n.1 in
         let f : or_else (faults outset ts) (fault_at (fault_on p semi) (length s)) ≡ faults outset ts = ap (λ (m : ℕ). or_else (faults outset ts) (fault_at m (length s))) y ∙ or_none (faults outset ts) in
-        answered_trees (last_board a s) (p.rules ++ (n.0 ∷ [])) rs (faults outset ts) (suc (length s)) o (t.fault ∙ f)
+        answered_trees (last_board a s) (p.rules ++ (n.0 ∷ [])) rs (faults outset ts) (suc (length s)) o (t.fault ∙ ap as_fault f)
         (λ k. subst (λ (x : Read). HoldsAt (closed p.rules x).rules (closed p.rules x).state (last_board a s).walk.counts (last_board a s).walk.current (last_board a s).arrays (suc (length s))) n.1 (t.holds (f ∙ k)))
         n.2
 

@@ -17,7 +17,8 @@ use Rattle.pack_token.proofs.Spellings.{same_eq, same_refl}
 use Rattle.pack_grammar.specs.Grammar.{Text, other}
 use Rattle.pack_grammar.specs.Limits.{keywords}
 use Rattle.pack_grammar.specs.RuleOf.{keyword_of as keyword_named}
-use Rattle.pack_faults.specs.Faults.{keyword_number, held, name_row}
+use Rattle.pack_faults.specs.Faults.{keyword_number, held}
+use Rattle.pack_reader.proofs.Numbers.{name_number}
 
 -- how often a number stands in a list
 abbrev bit : Bool → ℕ
@@ -222,7 +223,7 @@ word_row used known = if used then 25 else if known then 0 else 25
 
 -- 25 by numbers is 25 by words
 pub name_row_law : (t : Text) (ws : List Text)
-    → name_row (keyword_number t) (held (keyword_number t) (map keyword_number ws)) ≡ word_row (among t ws) (among t keywords)
+    → name_number (keyword_number t) (held (keyword_number t) (map keyword_number ws)) ≡ word_row (among t ws) (among t keywords)
 name_row_law t ws =
     ap (word_row (held (keyword_number t) (map keyword_number ws))) (known_number t)
     ∙ tested (among t ws) (λ e. rw (e, number_held t ws e)) (λ e. rw e (new e))

@@ -1,5 +1,5 @@
 -- The arrays of a pack while it is read, and how a token changes them. A relation, a clause and a rule are stored when the token behind them closes them.
-use Rattle.std.specs.Prelude.{◌≡◌, Bool, false, List, [], ◌∷◌, ℕ, ◌*◌, ◌-◌, ltb, length, take, drop, if◌then◌else◌}
+use Rattle.std.specs.Prelude.{◌≡◌, Bool, false, List, [], ◌∷◌, ℕ, ◌*◌, ◌-◌, ltb, length, take, drop, None, if◌then◌else◌}
 use Rattle.pack_rules.specs.Room.{range_room, relation_room, clause_room, rule_room}
 use Rattle.pack_rules.specs.declared.Pack.{Pack}
 use Rattle.pack_token.specs.Token.{Token, tokens}
@@ -60,7 +60,7 @@ start_walk =
       phase = Name;
       counts = record { ranges = 0; relations = 0; clauses = 0; rules = 0; values = 0; joined = 0; parted = 0 };
       current = record { key = 0; operand = 0; modulus = 0; negated = false; low = 0; other = false };
-      mark = record { stop = 0; row = 0; place = 0 };
+      mark = record { stop = 0; fault = None };
     }
 
 abbrev pub board_after : Board → Text → ℕ → Board

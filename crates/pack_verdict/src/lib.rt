@@ -6,45 +6,12 @@
 #![tactic(auto)]
 
 ghost use Rattle.std.specs.Prelude.{◌≡◌};
-ghost use Rattle.pack_grammar.specs.Reader.{row_of};
-ghost use Rattle.pack_verdict.specs.Verdict.{read_by, judged, judged_all};
+ghost use Rattle.pack_verdict.specs.Verdict.{judged_all};
 
 use answer::{PackRow, Place, Refusal};
 use pack_grammar::MAX_BYTES;
 use pack_phase::Phase;
 use pack_walk::Walk;
-
-fn row_of(n: u8) -> PackRow
-    ensures { result ≡ row_of n }
-{
-    match n {
-        22 => PackRow::ValueTooLarge,
-        23 => PackRow::UnlistedModulus,
-        24 => PackRow::RangeReversed,
-        25 => PackRow::BadKeyword,
-        _ => PackRow::TooMany,
-    }
-}
-
-// By a fault's row and place: n rules where there is no fault.
-fn read_by(row: u8, place: usize, n: usize) -> Result<usize, Refusal>
-    ensures { result ≡ read_by row place n }
-{
-    match row {
-        0 => Ok(n),
-        _ => Err(Refusal::Pack(row_of(row), Place(place))),
-    }
-}
-
-fn judge(w: Walk) -> Result<usize, Refusal>
-    ensures { result ≡ judged w }
-{
-    if w.phase == Phase::Name {
-        read_by(w.mark.row, w.mark.place, w.counts.rules)
-    } else {
-        Err(Refusal::Pack(PackRow::NotAPack, Place(w.mark.stop)))
-    }
-}
 
 // The answer at the end of a pack of n bytes: how many rules it has, or why it is not read.
 pub fn judge_all(n: usize, w: Walk) -> Result<usize, Refusal>
@@ -53,5 +20,11 @@ pub fn judge_all(n: usize, w: Walk) -> Result<usize, Refusal>
     if MAX_BYTES < n {
         return Err(Refusal::PackTooLong);
     }
-    judge(w)
+    if w.phase != Phase::Name {
+        return Err(Refusal::Pack(PackRow::NotAPack, Place(w.mark.stop)));
+    }
+    match w.mark.fault {
+        None => Ok(w.counts.rules),
+        Some(fault) => Err(Refusal::Pack(fault.row, fault.at)),
+    }
 }

@@ -1,6 +1,8 @@
 -- Where the code stands while it reads a pack, and how a token changes it: the phase, how many of each kind have been read, what is being read, and
 -- the first fault.
-use Rattle.std.specs.Prelude.{Bool, List, ℕ, get_or, take, if◌then◌else◌}
+use Rattle.std.specs.Prelude.{Bool, List, ℕ, get_or, take, Option, None, Some, if◌then◌else◌}
+use Rattle.answer.specs.declared.PackRow.{PackRow}
+use Rattle.answer.specs.declared.PackRow.TheVariants.{UnlistedModulus}
 use Rattle.pack_token.specs.Spelling.{same}
 use Rattle.pack_token.specs.Token.{differ}
 use Rattle.pack_grammar.specs.Limits.{is_modulus}
@@ -37,22 +39,22 @@ current_after o p t v key =
       other = same t other;
     }
 
--- ---- 22 to 26 of the token, else 0
+-- ---- 22 to 26 of the token, or none
 
 -- `again`: the keyword has been used
-abbrev pub row_at : Phase → ℕ → Bool → ℕ → Counts → ℕ → ℕ
+abbrev pub row_at : Phase → ℕ → Bool → ℕ → Counts → ℕ → Option PackRow
 row_at Name key again v c low = name_row key again
-row_at Colon key again v c low = 0
-row_at Nothing key again v c low = 0
+row_at Colon key again v c low = None
+row_at Nothing key again v c low = None
 row_at Operand key again v c low = operand_row c.parted c.joined
-row_at ModulusOrSign key again v c low = 0
-row_at Modulus key again v c low = if is_modulus v then 0 else 23
-row_at Sign key again v c low = 0
+row_at ModulusOrSign key again v c low = None
+row_at Modulus key again v c low = if is_modulus v then None else Some UnlistedModulus
+row_at Sign key again v c low = None
 row_at Value key again v c low = value_row v c.values
-row_at DotsOrMore key again v c low = 0
+row_at DotsOrMore key again v c low = None
 row_at Upper key again v c low = upper_row v low
-row_at More key again v c low = 0
-row_at Dead key again v c low = 0
+row_at More key again v c low = None
+row_at Dead key again v c low = None
 
 -- the place of the last token before nothing could follow
 abbrev pub stop_after : Phase → ℕ → ℕ → ℕ

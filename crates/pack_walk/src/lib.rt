@@ -11,6 +11,7 @@ ghost use Rattle.pack_grammar.specs.Grammar.{other};
 ghost use Rattle.pack_counts.specs.Counts.{nothing};
 ghost use Rattle.pack_walk.specs.Steps.{current_after, step_by, step_after};
 
+use answer::PackRow;
 use pack_counts::{Closes, Counts, NOTHING, counts_each, ends_bare, ends_relation};
 use pack_faults::{
     Mark, capped_value, held_before, is_modulus, keyword_number, mark_after, name_row, operand_row,
@@ -109,7 +110,7 @@ fn at_colon(q: Phase, t: &[u8], at: usize, w: Walk) -> Step
     plain(Walk {
         phase: q,
         current: kept(w.current, t),
-        mark: mark_after(w.mark, at, 0, at),
+        mark: mark_after(w.mark, at, None, at),
         ..w
     })
 }
@@ -140,7 +141,7 @@ fn at_sign(q: Phase, t: &[u8], at: usize, w: Walk) -> Step
             negated: is_differ(t),
             ..kept(w.current, t)
         },
-        mark: mark_after(w.mark, at, 0, at),
+        mark: mark_after(w.mark, at, None, at),
         ..w
     })
 }
@@ -149,7 +150,11 @@ fn at_modulus(q: Phase, t: &[u8], at: usize, w: Walk) -> Step
     ensures { result ≡ step_by Phase.Modulus nothing q t.now at [] w }
 {
     let value = capped_value(t);
-    let row = if is_modulus(value) { 0 } else { 23 };
+    let row = if is_modulus(value) {
+        None
+    } else {
+        Some(PackRow::UnlistedModulus)
+    };
     let walk = Walk {
         phase: q,
         current: Current {
@@ -194,7 +199,7 @@ fn at_close(x: Closes, q: Phase, t: &[u8], at: usize, w: Walk) -> Step
         phase: q,
         counts: counts_each(w.counts, false, x),
         current: kept(w.current, t),
-        mark: mark_after(w.mark, at, 0, at),
+        mark: mark_after(w.mark, at, None, at),
     };
     Step {
         closes: x,
@@ -227,7 +232,7 @@ fn at_dead(t: &[u8], at: usize, w: Walk) -> Step
     plain(Walk {
         phase: Phase::Dead,
         current: kept(w.current, t),
-        mark: mark_after(w.mark, w.mark.stop, 0, at),
+        mark: mark_after(w.mark, w.mark.stop, None, at),
         ..w
     })
 }
