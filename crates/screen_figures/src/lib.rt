@@ -12,7 +12,6 @@ ghost use Rattle.answer.specs.Table.{number_of, figures_of};
 ghost use Rattle.screen_figures.specs.Figures.{noted, sign_of, operands_of, word_number, read_code, read_figures, select_code, select_figures, check_code, check_figures, print_code, print_figures};
 
 use answer::{Keyword, Refusal};
-use decimal::num::{fewer, wide_byte};
 use number::Number;
 
 // Stores a figure at a place, if there is one.
@@ -29,10 +28,8 @@ fn put_values(figures: &mut [u64], values: &[u64], n: usize)
     requires { n ≤ length values.now }
     ensures { figures.new ≡ sets figures.old 1 (take n values.now) }
 {
-    let mut k = 0;
-    while k < n {
+    for k in 0..n {
         put(figures, k + 1, values[k]);
-        k += 1;
     }
 }
 
@@ -40,7 +37,7 @@ fn put_values(figures: &mut [u64], values: &[u64], n: usize)
 fn note(figures: &mut [u64; 8], values: &[u64], count: usize)
     ensures { figures.new ≡ noted (take count values.now) figures.old }
 {
-    let n = fewer(count, values.len());
+    let n = count.min(values.len());
     put(figures, 0, n as u64);
     put_values(figures, values, n);
 }
@@ -51,9 +48,8 @@ fn note_refusal(figures: &mut [u64; 8], refusal: Refusal) -> u32
     ensures figures_after { figures.new ≡ noted (figures_of refusal) figures.old }
 {
     let list = answer_lists::figures(refusal);
-    let values = list.values;
-    note(figures, &values, list.count);
-    answer_table::number(refusal) as u32
+    note(figures, &list.values, list.count);
+    u32::from(answer_table::number(refusal))
 }
 
 fn sign_of(negative: bool) -> u64
@@ -66,18 +62,14 @@ fn note_number(figures: &mut [u64; 8], x: Number) -> u32
     ensures value { result ≡ 0 }
     ensures figures_after { figures.new ≡ noted (operands_of x) figures.old }
 {
-    let v = x.v;
-    let f = x.f;
-    let w = x.w;
-    let t = x.t;
     let values = [
         sign_of(x.negative),
-        wide_byte(x.e),
-        wide_byte(v.0),
+        u64::from(x.e),
+        u64::from(x.v.0),
         x.i,
-        f.0,
-        wide_byte(w.0),
-        t.0,
+        x.f.0,
+        u64::from(x.w.0),
+        x.t.0,
     ];
     note(figures, &values, 7);
     0
@@ -100,8 +92,7 @@ fn note_one(figures: &mut [u64; 8], x: u64) -> u32
     ensures value { result ≡ 0 }
     ensures figures_after { figures.new ≡ noted (x ∷ []) figures.old }
 {
-    let values = [x];
-    note(figures, &values, 1);
+    note(figures, &[x], 1);
     0
 }
 
@@ -109,8 +100,7 @@ fn note_none(figures: &mut [u64; 8]) -> u32
     ensures value { result ≡ 0 }
     ensures figures_after { figures.new ≡ noted [] figures.old }
 {
-    let values = [0u64];
-    note(figures, &values, 0);
+    note(figures, &[], 0);
     0
 }
 

@@ -1,14 +1,10 @@
 -- `screen_figures::put_values` stores the values one by one. The invariant: what is left to store, stored from the place reached on, gives what the whole gives.
 use native.Mathlib.Omega.{arith}
-use mathlib.Core.Path.{refl, sym, ◌∙◌}
+use mathlib.Core.Path.{◌∙◌}
 use Prim.Native.Nat.{ℕ}
-use native.Mathlib.Nat.{sub-zero}
 use lib.ListN.{length-set}
-use Rattle.screen_figures.proofs.Noted.{again, done}
+use Rattle.screen_figures.proofs.Noted.{again}
 use Rattle.screen_figures.proofs.put_values.Goals as goal
-
-pub loop-k-init : goal.loop-k-init
-loop-k-init c = (omega arith, c.requires, refl, rw sub-zero)
 
 pub loop-k-preserved : goal.loop-k-preserved
 loop-k-preserved c =
@@ -20,9 +16,3 @@ loop-k-preserved c =
       rw (p, length-set {A = ℕ}) c.loop-k.invariant.2,
       rw p (again c.loop-k.figures a.values.now a.n c.loop-k.k h c.loop-k.invariant.1 ∙ c.loop-k.invariant.3),
     )
-
-pub shape_of-figures : goal.shape_of-figures
-shape_of-figures c = c.loop-k.invariant.2
-
-pub returns : goal.returns
-returns c = sym (done _ _ _ _ c.loop-k.invariant.0 (omega arith)) ∙ c.loop-k.invariant.3

@@ -9,6 +9,3 @@ abbrev pub invariant-loop-k : goal.invariant-loop-k
 invariant-loop-k l =
     (l.k ≤ l.n) × (l.n ≤ length l.values) × (length l.figures ≡ length l.initial.figures)
     × (sets l.figures (l.k + 1) (take (l.n - l.k) (drop l.k l.values)) ≡ sets l.initial.figures 1 (take l.n l.values))
-
-abbrev pub decreases-loop-k : goal.decreases-loop-k
-decreases-loop-k l = l.n - l.k
