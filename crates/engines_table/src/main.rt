@@ -23,9 +23,7 @@ pub struct Answers {
 }
 
 // Both answers: they are equal, for every pack.
-fn ask_both(
-    pack: &Pack,
-) -> Answers
+fn ask_both(pack: &Pack) -> Answers
     ensures { (result.fast ≡ result.plain) × (result.plain ≡ check_of (held_rules pack.now)) }
 {
     let fast = check_pairs::check(pack);
