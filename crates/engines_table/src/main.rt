@@ -3,14 +3,12 @@
 // is not read gets `!` and the number and place of its refusal.
 #![tactic(auto)]
 
-ghost use Rattle.std.specs.Prelude.{◌≡◌};
-ghost use Rattle.decimal.specs.Choice.{both};
+ghost use Rattle.std.specs.Prelude.{◌≡◌, ◌↔◌, true};
 ghost use Rattle.pack_rules.specs.Held.{held_rules};
 ghost use Rattle.check_laws.specs.Check.{check_of};
-ghost use Rattle.engines_table.specs.Same.{same_pair, same_number, same_clash, same_answer};
 
-use answer::{Pair, Refusal, Witness};
-use check_laws::Checked;
+use answer::Refusal;
+use check_laws::Clash;
 use pack_rules::Pack;
 use std::io;
 use std::io::Read;
@@ -26,131 +24,61 @@ pub struct Answers {
 fn ask_both(pack: &Pack) -> Answers
     ensures { (result.fast ≡ result.plain) × (result.plain ≡ check_of (held_rules pack.now)) }
 {
-    let fast = check_pairs::check(pack);
-    let plain = check_plain::check(pack);
     Answers {
-        fast: fast,
-        plain: plain,
+        fast: check_pairs::check(pack),
+        plain: check_plain::check(pack),
     }
 }
 
-fn same_pair(a: Pair, b: Pair) -> bool
-    ensures { result ≡ same_pair a b }
+// Whether they are the same.
+fn are_same(a: Answers) -> bool
+    ensures { (result ≡ true) ↔ (a.fast ≡ a.plain) }
 {
-    if a.first != b.first {
-        return false;
-    }
-    a.second == b.second
-}
-
-fn same_number(x: Witness, y: Witness) -> bool
-    ensures { result ≡ same_number x y }
-{
-    if x.e != y.e {
-        return false;
-    }
-    let v = x.v;
-    let w = y.v;
-    if v.0 != w.0 {
-        return false;
-    }
-    if x.i != y.i {
-        return false;
-    }
-    let f = x.f;
-    let g = y.f;
-    f.0 == g.0
-}
-
-fn same_parts(a: Pair, b: Pair, x: Witness, y: Witness) -> bool
-    ensures { result ≡ both (same_pair a b) (same_number x y) }
-{
-    if !same_pair(a, b) {
-        return false;
-    }
-    same_number(x, y)
-}
-
-fn is_pass(c: Result<(), Clash>) -> bool
-    ensures { result ≡ same_answer Ok tt c }
-{
-    match c {
-        Ok(()) => true,
-        Err(Clash { pair, witness: x }) => false,
-    }
-}
-
-fn same_clash(pair: Pair, x: Witness, c: Result<(), Clash>) -> bool
-    ensures { result ≡ same_clash pair x c }
-{
-    match c {
-        Ok(()) => false,
-        Err(Clash { pair: other, witness: y }) => same_parts(pair, other, x, y),
-    }
-}
-
-fn same_answer(a: Result<(), Clash>, b: Result<(), Clash>) -> bool
-    ensures { result ≡ same_answer a b }
-{
-    match a {
-        Ok(()) => is_pass(b),
-        Err(Clash { pair, witness: x }) => same_clash(pair, x, b),
-    }
-}
-
-fn wide(x: u8) -> u64 {
-    x as u64
-}
-
-fn print_text(rt: &impl Print, s: &[u8]) -> io::Result<()> {
-    rt.write_all(s)
+    a.fast == a.plain
 }
 
 fn print_figure(rt: &impl Print, x: u64) -> io::Result<()> {
     print!(rt; " {x}")
 }
 
-fn print_clash(rt: &impl Print, pair: Pair, x: Witness) -> io::Result<()> {
-    print_text(rt, b" 27")?;
-    print_figure(rt, wide(pair.first))?;
-    print_figure(rt, wide(pair.second))?;
-    let v = x.v;
-    let f = x.f;
-    print_figure(rt, wide(x.e))?;
-    print_figure(rt, wide(v.0))?;
+fn print_clash(rt: &impl Print, clash: Clash) -> io::Result<()> {
+    let x = clash.witness;
+    rt.write_all(b" 27")?;
+    print_figure(rt, u64::from(clash.pair.first))?;
+    print_figure(rt, u64::from(clash.pair.second))?;
+    print_figure(rt, u64::from(x.e))?;
+    print_figure(rt, u64::from(x.v.0))?;
     print_figure(rt, x.i)?;
-    print_figure(rt, f.0)
+    print_figure(rt, x.f.0)
 }
 
-fn print_checked(rt: &impl Print, c: Result<(), Clash>) -> io::Result<()> {
-    match c {
-        Ok(()) => print_text(rt, b" passes"),
-        Err(Clash { pair, witness: x }) => print_clash(rt, pair, x),
+fn print_checked(rt: &impl Print, checked: Result<(), Clash>) -> io::Result<()> {
+    match checked {
+        Ok(()) => rt.write_all(b" passes"),
+        Err(clash) => print_clash(rt, clash),
     }
 }
 
 fn print_answers(rt: &impl Print, a: Answers) -> io::Result<()> {
-    let fast = a.fast;
-    let plain = a.plain;
-    print_text(rt, b"fast")?;
-    print_checked(rt, fast)?;
-    print_text(rt, b", plain")?;
-    print_checked(rt, plain)?;
-    if same_answer(fast, plain) {
-        print_text(rt, b": same\n")
+    rt.write_all(b"fast")?;
+    print_checked(rt, a.fast)?;
+    rt.write_all(b", plain")?;
+    print_checked(rt, a.plain)?;
+    if are_same(a) {
+        rt.write_all(b": same\n")
     } else {
-        print_text(rt, b": not the same\n")
+        rt.write_all(b": not the same\n")
     }
 }
 
 fn print_refusal(rt: &impl Print, r: Refusal) -> io::Result<()> {
-    print_text(rt, b"!")?;
-    print_figure(rt, wide(answer_table::number(r)))?;
+    rt.write_all(b"!")?;
+    print_figure(rt, u64::from(answer_table::number(r)))?;
     let f = answer_lists::figures(r);
     if 0 < f.count {
         print_figure(rt, f.values[0])?;
     }
-    print_text(rt, b"\n")
+    rt.write_all(b"\n")
 }
 
 fn print_check(rt: &impl Print, text: &[u8]) -> io::Result<()> {
@@ -162,12 +90,8 @@ fn print_check(rt: &impl Print, text: &[u8]) -> io::Result<()> {
 }
 
 fn print_all(rt: &impl Print, input: &[u8]) -> io::Result<()> {
-    let mut from = 0;
-    while from < input.len() {
-        let rest = decimal::cut::after(input, from);
-        let n = decimal::scan::run_until(rest, 10);
-        print_check(rt, decimal::cut::upto(rest, n))?;
-        from = line::next_line(from, n, input.len());
+    for line in input.split_inclusive(|b| *b == b'\n') {
+        print_check(rt, line.strip_suffix(b"\n").unwrap_or(line))?;
     }
     Ok(())
 }

@@ -1,8 +1,6 @@
--- `engines_table::ask_both` has two equal answers, by the contracts of the two engines.
+-- `engines_table::ask_both` asks two engines of one contract.
 use Rattle.engines_table.proofs.Agree.{engines_agree}
 use Rattle.engines_table.proofs.ask_both.Goals as goal
 
 pub returns : goal.returns
-returns c =
-    let a = c.args in
-    (engines_agree (a.pack.now) c.check-fast.result c.check-plain.result c.check-fast.ensures c.check-plain.ensures, c.check-plain.ensures)
+returns c = (engines_agree c.args.pack.now c.check.result c.check-2.result c.check.ensures c.check-2.ensures, c.check-2.ensures)
