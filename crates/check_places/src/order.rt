@@ -24,20 +24,7 @@ fn precedes(a: Witness, b: Witness) -> bool
     requires { Proper a × Proper b }
     ensures { result ≡ ltb (spot_rank a) (spot_rank b) }
 {
-    if a.e != b.e {
-        return a.e < b.e;
-    }
-    let v = a.v;
-    let w = b.v;
-    if v.0 != w.0 {
-        return v.0 < w.0;
-    }
-    if a.i != b.i {
-        return a.i < b.i;
-    }
-    let f = a.f;
-    let g = b.f;
-    f.0 < g.0
+    a < b
 }
 
 // The earlier of two.
@@ -45,8 +32,5 @@ pub fn earlier(a: Witness, b: Witness) -> Witness
     requires { Proper a × Proper b }
     ensures { (spot_rank result ≡ min (spot_rank a) (spot_rank b)) × Proper result }
 {
-    if precedes(a, b) {
-        return a;
-    }
-    b
+    if precedes(a, b) { a } else { b }
 }
