@@ -1,7 +1,7 @@
 -- Every row of the card is right, by computation from the definitions; what the check says of the rules that are read of a pack is proved from the definition of the
 -- check (check_laws/proofs/Rows.antt).
 use Rattle.check_laws.specs.declared.Clash.{Clash}
-use Rattle.std.specs.Prelude.{Result, Ok, Err}
+use Rattle.std.specs.Prelude.{Result, Ok}
 use mathlib.Core.Path.{◌≡◌, refl}
 use mathlib.Core.List.{List}
 use Prim.Native.Nat.{ℕ}

@@ -20,7 +20,7 @@ use Rattle.answer.specs.declared.PatternRow.TheVariants.{PatternTooLong, Pattern
 use Rattle.answer.specs.declared.SymbolRow.{SymbolRow}
 use Rattle.answer.specs.declared.SymbolRow.TheVariants.{NotASymbolRecord, BadSymbolBody}
 use Rattle.answer.specs.declared.Refusal.{Refusal}
-use Rattle.answer.specs.declared.Refusal.TheVariants.{Number, PackTooLong, Pack, Rules as OfRules, Pattern, Symbols, Print as OfPrint}
+use Rattle.answer.specs.declared.Refusal.TheVariants.{Number, PackTooLong, Pack, Rules as OfRules, Pattern as OfPattern, Symbols, Print as OfPrint}
 use Rattle.answer.specs.declared.RulesRow.TheVariants.{TwoRulesMet, RulesClash}
 use Rattle.answer.specs.declared.PrintRow.TheVariants.{PrintedExponent, AreaTooShort}
 use Rattle.number.specs.Reading.{read_number}
@@ -55,7 +55,7 @@ use Rattle.demands.proofs.Given.{number_given, number_found, select_given, selec
 pub number_comes : (s : List ℕ) → NumberComes s (read_code (read_number s)) (read_figures (read_number s))
 number_comes s = by (read_number s) (number_found s)
   where
-    by : (x : Result Number Refusal) → NumberVerdict s x → NumberComes s (read_code x) (read_figures x)
+    by : (x : Result Operands Refusal) → NumberVerdict s x → NumberComes s (read_code x) (read_figures x)
     by (Ok x) v = answer (operands_of x) (x, (v, refl))
     by (Err r) v = refusal r v
 
@@ -147,7 +147,7 @@ never_zero PackTooLong = omega arith
 never_zero (Pack q at) = omega (arith, (pack_rows_law q).0)
 never_zero (OfRules (TwoRulesMet pair)) = omega arith
 never_zero (OfRules (RulesClash pair x)) = omega arith
-never_zero (Pattern q) = omega (arith, (pattern_rows q).0)
+never_zero (OfPattern q) = omega (arith, (pattern_rows q).0)
 never_zero (Symbols q) = omega (arith, (symbol_rows q).0)
 never_zero (OfPrint PrintedExponent) = omega arith
 never_zero (OfPrint (AreaTooShort n)) = omega arith
@@ -163,7 +163,7 @@ figures_few PackTooLong = omega arith
 figures_few (Pack q at) = omega arith
 figures_few (OfRules (TwoRulesMet pair)) = omega arith
 figures_few (OfRules (RulesClash pair x)) = omega arith
-figures_few (Pattern q) = omega arith
+figures_few (OfPattern q) = omega arith
 figures_few (Symbols q) = omega arith
 figures_few (OfPrint PrintedExponent) = omega arith
 figures_few (OfPrint (AreaTooShort n)) = omega arith
@@ -173,7 +173,7 @@ pub number_noted : (s before : List ℕ) → length before ≡ 8
     → let fs = read_figures (read_number s) in noted fs before ≡ (length fs ∷ fs) ++ drop (length (length fs ∷ fs)) before
 number_noted s before h = noted_front (read_figures (read_number s)) before h (few (read_number s))
   where
-    few : (x : Result Number Refusal) → length (read_figures x) ≤ 7
+    few : (x : Result Operands Refusal) → length (read_figures x) ≤ 7
     few (Ok x) = omega arith
     few (Err r) = figures_few r
 
@@ -203,7 +203,7 @@ print_noted house s t area before h = noted_front (print_figures (answer_of (out
 
 -- ---- which rows an entry has
 
-number_row_law : {s : List ℕ} {x : Result Number Refusal} → NumberVerdict s x → ZeroOr (Within 10 15 (read_code x)) (read_code x)
+number_row_law : {s : List ℕ} {x : Result Operands Refusal} → NumberVerdict s x → ZeroOr (Within 10 15 (read_code x)) (read_code x)
 number_row_law (row r h) = inr (number_rows r)
 number_row_law (read p h) = inl refl
 

@@ -3,7 +3,6 @@
 -- `check_text::check` and `select_text::select` cite.
 use Rattle.check_laws.specs.declared.Clash.{Clash}
 use Rattle.check_laws.specs.Check.{clashing}
-use Rattle.std.specs.Prelude.{Result, Ok, Err}
 use Rattle.std.specs.Prelude.{Err, Ok, Result}
 use Rattle.answer.specs.declared.Keyword.{Keyword}
 use Rattle.answer.specs.declared.Refusal.{Refusal}
@@ -64,7 +63,10 @@ names_the_first pack rules pair x v c = subst (Claims 1 rules) (clashed (check_o
   where
     clashed : (r : Result (Unit {0}) Clash) → checked_by r ≡ Err (OfRules (RulesClash pair x)) → r ≡ clashing pair x
     clashed (Ok tt) q = never (cc)
-    clashed (Err c) q = cc
+    clashed (Err c) q =
+        let p : c.pair ≡ pair = cc in
+        let w : c.witness ≡ x = cc in
+        ap (λ (d : Pair). clashing d c.witness) p ∙ ap (clashing pair) w
 
 -- a pack that is read and does not pass gets 27: no other refusal is left
 pub else_27 : (pack : List ℕ) (rules : List Rule) → PackVerdict pack (Rules rules) → (Passed pack → ⊥) → (pair : Pair) × ((x : Witness) × (check_pack pack ≡ Err (OfRules (RulesClash pair x))))
@@ -173,7 +175,7 @@ grown smaller added larger number rules d r p q =
         let word-r : select_of smaller number ≡ Ok (word_met rs x) = rw (e, n) (selected x rs mr) in
         record {
           named = λ j w m.
-              let same : m.operands ≡ x = read_as (sym (number_given number m.number_read) ∙ n) in
+              let same : m.operands ≡ x = read_as (read_number number) (number_given number m.number_read) n in
               let at = subst (λ (y : Number). MeetsAt y (map segment_rule added) j w) same m.meets_it in
               let none : met rs x ≡ 0 = omega (arith, sum, both-few, counted x at) in
               word-q ∙ ap Ok (word_added x rs (map segment_rule added) none ∙ word_of x at (omega (arith, sum, both-few)));
@@ -194,5 +196,5 @@ grown smaller added larger number rules d r p q =
         pos : {m : ℕ} → (m ≡ 0 → ⊥) → 0 < m
         pos {m} g = omega arith
 
-        read_as : {y : Number} → Ok y ≡ Ok x → y ≡ x
-        read_as q = cc
+        read_as : (c : Result Number Refusal) {y : Number} → c ≡ Ok y → c ≡ Ok x → y ≡ x
+        read_as c o q = cc

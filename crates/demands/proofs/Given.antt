@@ -2,7 +2,6 @@
 -- `..-found`, one always is.
 use Rattle.check_laws.specs.declared.Clash.{Clash}
 use Rattle.check_laws.specs.Check.{clashing}
-use Rattle.std.specs.Prelude.{Result, Ok, Err}
 use Rattle.std.specs.Prelude.{Err, Ok, Result}
 use Rattle.answer.specs.declared.Keyword.{Keyword}
 use mathlib.Core.Path.{◌≡◌, refl, sym, ap, ◌∙◌, subst, fun_ext}
@@ -64,7 +63,7 @@ use Rattle.demands.specs.Verdicts.PrintVerdict.{by_symbols, by_pattern, by_numbe
 
 -- ---- numbers
 
-pub number_given : (s : List ℕ) {r : Result Number Refusal} → NumberVerdict s r → read_number s ≡ r
+pub number_given : (s : List ℕ) {r : Result Operands Refusal} → NumberVerdict s r → read_number s ≡ r
 number_given s (row r h) = given_if r s h
 number_given s (read p h) = read_if s p h
 
@@ -147,7 +146,7 @@ select_given pack number (chosen rules x c p n h) = rw (pack_given pack p, numbe
 pub select_found : (pack number : List ℕ) → SelectVerdict pack number (select_of pack number)
 select_found pack number = by_answer (read_pack pack) refl
   where
-    by_reading : (rules : List Rule) → read_pack pack ≡ Rules rules → (r : Result Number Refusal) → read_number number ≡ r → SelectVerdict pack number (select_number rules r)
+    by_reading : (rules : List Rule) → read_pack pack ≡ Rules rules → (r : Result Operands Refusal) → read_number number ≡ r → SelectVerdict pack number (select_number rules r)
     by_reading rules e (Ok x) k =
         chosen rules x (selection rules x) (subst (PackVerdict pack) e (pack_found pack)) (subst (NumberVerdict number) k (number_found number)) (told x rules)
     by_reading rules e (Err r) k =

@@ -1,5 +1,5 @@
 -- Laws of storing figures.
-use mathlib.Core.Path.{◌≡◌, sym, ap, ◌∙◌}
+use mathlib.Core.Path.{◌≡◌, sym, ◌∙◌}
 use mathlib.Core.List.{List, ◌∷◌, ◌++◌}
 use Prim.Native.Nat.{ℕ, suc, ◌+◌, ◌-◌, ◌≤◌, ◌<◌, min}
 use native.Mathlib.Omega.{arith}
@@ -44,8 +44,3 @@ stored o values count n e = rw (e, take_min count values, length-take count valu
 pub noted_front : (figures before : List ℕ) → length before ≡ 8 → length figures ≤ 7
     → noted figures before ≡ (length figures ∷ figures) ++ drop (length (length figures ∷ figures)) before
 noted_front figures before h l = sets-eq (length figures ∷ figures) before 0 (omega arith) ∙ rw zero-add
-
--- An answer r that is x: the code and the figures of r are those of x.
-pub told : {A : Type 0} (code : A → ℕ) (figures : A → List ℕ) (r x : A) (c : ℕ) (fs before : List ℕ) → r ≡ x → c ≡ code r → fs ≡ noted (figures r) before
-    → (c ≡ code x) × (fs ≡ noted (figures x) before)
-told code figures r x c fs before e k h = (k ∙ ap code e, h ∙ ap (λ y. noted (figures y) before) e)

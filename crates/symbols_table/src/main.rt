@@ -5,36 +5,27 @@
 // Agreement for Data Files and Software, (c) 1991-2022 Unicode, Inc.).
 #![tactic(auto)]
 
-ghost use Rattle.std.specs.Prelude.{◌≤◌, length};
-
-use decimal::cut;
+use answer::Refusal;
+use decimal::cut::upto;
 use std::io;
 use std::io::Read;
 use symbols::Symbol;
 
-// How many bytes stand before the end of the line.
-fn line_len(s: &[u8]) -> usize
-    ensures { result ≤ length s.now }
-{
-    let mut i = 0;
-    while i < s.len() {
-        if s[i] == 10 {
-            return i;
-        }
-        i += 1;
-    }
-    i
-}
+const SYMBOLS: [Symbol; 7] = [
+    Symbol::Decimal,
+    Symbol::Group,
+    Symbol::Minus,
+    Symbol::Plus,
+    Symbol::Percent,
+    Symbol::Permille,
+    Symbol::Minimum,
+];
 
-fn wide(x: u8) -> u64 {
-    x as u64
-}
-
-fn print_judged(rt: &impl Print, j: Result<(), Refusal>) -> io::Result<()> {
-    match j {
+fn print_judged(rt: &impl Print, judged: Result<(), Refusal>) -> io::Result<()> {
+    match judged {
         Ok(()) => print!(rt; "good"),
         Err(refusal) => {
-            let number = wide(answer_table::number(refusal));
+            let number = answer_table::number(refusal);
             print!(rt; "! {number}")
         }
     }
@@ -42,41 +33,23 @@ fn print_judged(rt: &impl Print, j: Result<(), Refusal>) -> io::Result<()> {
 
 fn print_body(rt: &impl Print, body: &[u8]) -> io::Result<()> {
     print!(rt; " /")?;
-    let mut i = 0;
-    while i < body.len() {
-        let byte = wide(body[i]);
+    for byte in body {
         print!(rt; " {byte}")?;
-        i += 1;
     }
     Ok(())
 }
 
-fn print_symbol(rt: &impl Print, house: &[u8], y: Symbol) -> io::Result<()> {
-    print_body(rt, symbols::find(house, &symbols::STANDARD, y))
-}
-
 fn print_record(rt: &impl Print, record: &[u8]) -> io::Result<()> {
     print_judged(rt, symbols::read_symbols(record))?;
-    print_symbol(rt, record, Symbol::Decimal)?;
-    print_symbol(rt, record, Symbol::Group)?;
-    print_symbol(rt, record, Symbol::Minus)?;
-    print_symbol(rt, record, Symbol::Plus)?;
-    print_symbol(rt, record, Symbol::Percent)?;
-    print_symbol(rt, record, Symbol::Permille)?;
-    print_symbol(rt, record, Symbol::Minimum)?;
+    for symbol in SYMBOLS {
+        print_body(rt, symbols::find(record, &symbols::STANDARD, symbol))?;
+    }
     println!(rt)
 }
 
 fn print_all(rt: &impl Print, input: &[u8]) -> io::Result<()> {
-    let mut from = 0;
-    while from < input.len() {
-        let rest = cut::after(input, from);
-        let n = line_len(rest);
-        print_record(rt, cut::upto(rest, n))?;
-        if input.len() - from <= n {
-            return Ok(());
-        }
-        from = from + n + 1;
+    for line in input.split_inclusive(|b| *b == b'\n') {
+        print_record(rt, line.strip_suffix(b"\n").unwrap_or(line))?;
     }
     Ok(())
 }
@@ -85,5 +58,5 @@ fn main(rt: HostRuntime) -> io::Result<()> {
     let mut buffer = [0u8; 65_536];
     let mut rest = &mut buffer[..];
     let held = io::copy(&mut rt.stdin().take(65_536), &mut rest)?;
-    print_all(&rt, cut::upto(&buffer, held as usize))
+    print_all(&rt, upto(&buffer, held as usize))
 }

@@ -1,9 +1,0 @@
--- `line_len` is safe, ends, and answers a place of the text.
-use Rattle.std.proofs.Common.{◌≤◌, ◌-◌, length}
-use Rattle.pattern_table.proofs.line_len.Given as goal
-
-abbrev pub invariant-loop-i : goal.invariant-loop-i
-invariant-loop-i l = l.i ≤ length l.s
-
-abbrev pub decreases-loop-i : goal.decreases-loop-i
-decreases-loop-i l = length l.s - l.i
