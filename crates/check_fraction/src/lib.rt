@@ -67,7 +67,7 @@ fn tail_at(pack: &Pack, s: Span, k: u64, t: u64, spared: bool) -> u64
 
 // The least v and f, where f ends in k zeros and is not 0. There is no search where no v is settled.
 fn tail_code(pack: &Pack, s: Span, b: Bounds, vs: u64, ws: u64, k: u64, t: u64, spared: bool) -> u64
-    requires k_lt_max_places { (k < max_places) × (s.to ≤ relation_room) × (s.stop ≤ relation_room) × (t ≡ alone_of (joined_in (table_of pack.now) s)) × (spared ≡ not (asks_of 102 (joined_in (table_of pack.now) s))) }
+    requires in_room { (k < max_places) × (s.to ≤ relation_room) × (s.stop ≤ relation_room) × (t ≡ alone_of (joined_in (table_of pack.now) s)) × (spared ≡ not (asks_of 102 (joined_in (table_of pack.now) s))) }
     requires settled { Settled (bounded b (joined_in (table_of pack.now) s)) vs ws }
     ensures { result ≡ tail_code k (bounded b (joined_in (table_of pack.now) s)) }
 {
@@ -84,7 +84,7 @@ fn tail_code(pack: &Pack, s: Span, b: Bounds, vs: u64, ws: u64, k: u64, t: u64, 
 
 // The least over the zeros at the end of f. More zeros need more places than one that is found may have.
 fn least_code(pack: &Pack, s: Span, b: Bounds, vs: u64, ws: u64, t: u64, spared: bool) -> u64
-    requires to_le_relation_room { (s.to ≤ relation_room) × (s.stop ≤ relation_room) × (t ≡ alone_of (joined_in (table_of pack.now) s)) × (spared ≡ not (asks_of 102 (joined_in (table_of pack.now) s))) }
+    requires in_room { (s.to ≤ relation_room) × (s.stop ≤ relation_room) × (t ≡ alone_of (joined_in (table_of pack.now) s)) × (spared ≡ not (asks_of 102 (joined_in (table_of pack.now) s))) }
     requires settled { Settled (bounded b (joined_in (table_of pack.now) s)) vs ws }
     ensures { result ≡ part_code max_places (bounded b (joined_in (table_of pack.now) s)) }
 {
@@ -137,7 +137,7 @@ fn code_of(v: u64, f: u64) -> u64
 // f alone, nor its v before the least with room for that. So they are a bound, and often reached: then
 // one search for t is enough.
 fn asked_code(pack: &Pack, s: Span, b: Bounds, vs: u64, ws: u64, t: u64) -> u64
-    requires to_le_relation_room { (s.to ≤ relation_room) × (s.stop ≤ relation_room) × (t ≡ alone_of (joined_in (table_of pack.now) s)) × (false ≡ not (asks_of 102 (joined_in (table_of pack.now) s))) }
+    requires in_room { (s.to ≤ relation_room) × (s.stop ≤ relation_room) × (t ≡ alone_of (joined_in (table_of pack.now) s)) × (false ≡ not (asks_of 102 (joined_in (table_of pack.now) s))) }
     requires settled { Settled (bounded b (joined_in (table_of pack.now) s)) vs ws }
     ensures { result ≡ part_code max_places (bounded b (joined_in (table_of pack.now) s)) }
 {
@@ -156,8 +156,8 @@ fn asked_code(pack: &Pack, s: Span, b: Bounds, vs: u64, ws: u64, t: u64) -> u64
 
 // The least v and f, where f is not 0: none where no t meets what is asked of t alone.
 pub fn part_code(pack: &Pack, s: Span, b: Bounds, p: u64, floor: u64) -> u64
-    requires to_le_relation_room { (s.to ≤ relation_room) × (s.stop ≤ relation_room) × NoneBelow alone (joined_in (table_of pack.now) s) floor }
-    requires p_value { p ≡ profile_of (bounded b (joined_in (table_of pack.now) s)) }
+    requires in_room { (s.to ≤ relation_room) × (s.stop ≤ relation_room) × NoneBelow alone (joined_in (table_of pack.now) s) floor }
+    requires profile { p ≡ profile_of (bounded b (joined_in (table_of pack.now) s)) }
     ensures { result ≡ part_code max_places (bounded b (joined_in (table_of pack.now) s)) }
 {
     let t = alone_of(pack, s, floor);

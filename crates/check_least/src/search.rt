@@ -71,7 +71,7 @@ fn by_table(
     hi: u64,
 ) -> u64
     requires fit { Fit q × Room q hi × (lo ≤ hi) × (s.to ≤ relation_room) × (s.stop ≤ relation_room) × (size_of s ≤ kept_room) × Told (table_of pack.now) s q marks.now.tiers }
-    requires s_value { levelled q (joined_in (table_of pack.now) s) ≡ true }
+    requires all_levelled { levelled q (joined_in (table_of pack.now) s) ≡ true }
     requires laid { Laid table.now.starts table.now.ends table.now.at levels }
     requires tabled { Tabled (below q (joined_in (table_of pack.now) s)) table.now.starts table.now.ends table.now.at levels }
     ensures { Least (passes_all q (joined_in (table_of pack.now) s)) lo hi result }
@@ -88,8 +88,8 @@ fn by_table(
 // Makes the table and searches by it.
 fn in_table(pack: &Pack, s: Span, q: Query, marks: &LevelMarks, lo: u64, hi: u64) -> u64
     requires fit { Fit q × Room q hi × (lo ≤ hi) × (s.to ≤ relation_room) × (s.stop ≤ relation_room) × (size_of s ≤ kept_room) × Told (table_of pack.now) s q marks.now.tiers }
-    requires s_value { levelled q (joined_in (table_of pack.now) s) ≡ true }
-    requires by_index { (j : ℕ) → j < 9 → get_or marks.now.asked j false ≡ false → (x : ℕ) → own q (joined_in (table_of pack.now) s) j x ≡ true }
+    requires all_levelled { levelled q (joined_in (table_of pack.now) s) ≡ true }
+    requires unasked { (j : ℕ) → j < 9 → get_or marks.now.asked j false ≡ false → (x : ℕ) → own q (joined_in (table_of pack.now) s) j x ≡ true }
     ensures { Least (passes_all q (joined_in (table_of pack.now) s)) lo hi result }
 {
     let mut table = NextTable {
@@ -121,8 +121,8 @@ fn asks_remainder(marks: &LevelMarks) -> bool
 // where it leaves no number, or its least one passes, there is no table.
 fn by_window(pack: &Pack, s: Span, q: Query, marks: &LevelMarks, lo: u64, hi: u64) -> u64
     requires fit { Fit q × Room q hi × (lo ≤ hi) × (s.to ≤ relation_room) × (s.stop ≤ relation_room) × (size_of s ≤ kept_room) × Told (table_of pack.now) s q marks.now.tiers }
-    requires s_value { levelled q (joined_in (table_of pack.now) s) ≡ true }
-    requires by_index { (j : ℕ) → j < 9 → get_or marks.now.asked j false ≡ false → (x : ℕ) → own q (joined_in (table_of pack.now) s) j x ≡ true }
+    requires all_levelled { levelled q (joined_in (table_of pack.now) s) ≡ true }
+    requires unasked { (j : ℕ) → j < 9 → get_or marks.now.asked j false ≡ false → (x : ℕ) → own q (joined_in (table_of pack.now) s) j x ≡ true }
     ensures { Least (passes_all q (joined_in (table_of pack.now) s)) lo hi result }
 {
     let p = in_window(pack, s, q, marks, lo, hi);

@@ -24,7 +24,7 @@ pub fn later_clash(
     p: usize,
     n: usize,
 ) -> LaterClash
-    requires p_lt_n { (p < n) × (n ≤ rule_room) × Floored (table_of pack.now) pack.now.relations floors.now.whole floors.now.part floors.now.tail }
+    requires in_room { (p < n) × (n ≤ rule_room) × Floored (table_of pack.now) pack.now.relations floors.now.whole floors.now.part floors.now.tail }
     requires profiled_rules { ProfiledRules (table_of pack.now) pack.now.relations pack.now.clauses n profiles.now }
     ensures { ((rest : Result (Unit {0}) Clash) → against fast_clash (p + 1) (p + 1 + 1) (bare_rule (table_of pack.now) pack.now.relations pack.now.clauses p) (stretch (bare_rule (table_of pack.now) pack.now.relations pack.now.clauses) (p + 1) (n - (p + 1))) rest ≡ answered p n result.at result.spot rest) × (result.at < n → result.spot.e ≤ max_exponent) × Proper result.spot }
 {
@@ -47,7 +47,7 @@ pub fn first_pair(
     profiles: &PerClause,
     n: usize,
 ) -> Result<(), Clash>
-    requires n_le_rule_room { (n ≤ rule_room) × Floored (table_of pack.now) pack.now.relations floors.now.whole floors.now.part floors.now.tail }
+    requires in_room { (n ≤ rule_room) × Floored (table_of pack.now) pack.now.relations floors.now.whole floors.now.part floors.now.tail }
     requires profiled_rules { ProfiledRules (table_of pack.now) pack.now.relations pack.now.clauses n profiles.now }
     ensures { result ≡ first_pair fast_clash (0 + 1) (stretch (bare_rule (table_of pack.now) pack.now.relations pack.now.clauses) 0 (n - 0)) }
 {

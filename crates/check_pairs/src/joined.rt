@@ -23,8 +23,8 @@ fn joined_spot(
     k: usize,
     l: usize,
 ) -> Witness
-    requires k_lt_clause_room { (k < clause_room) × (l < clause_room) × Floored (table_of pack.now) pack.now.relations floors.now.whole floors.now.part floors.now.tail }
-    requires k_value { (get_or profiles.now k 0 ≡ profile_of (clause_at (table_of pack.now) pack.now.relations k)) × (get_or profiles.now l 0 ≡ profile_of (clause_at (table_of pack.now) pack.now.relations l)) }
+    requires in_room { (k < clause_room) × (l < clause_room) × Floored (table_of pack.now) pack.now.relations floors.now.whole floors.now.part floors.now.tail }
+    requires profiles { (get_or profiles.now k 0 ≡ profile_of (clause_at (table_of pack.now) pack.now.relations k)) × (get_or profiles.now l 0 ≡ profile_of (clause_at (table_of pack.now) pack.now.relations l)) }
     ensures { (spot_rank result ≡ clause_rank (clause_at (table_of pack.now) pack.now.relations k ++ clause_at (table_of pack.now) pack.now.relations l)) × Proper result }
 {
     let from = start_at(&pack.relations, k);
@@ -56,8 +56,8 @@ fn with_each(
     to: usize,
     first: Witness,
 ) -> Witness
-    requires k_lt_clause_room { (k < clause_room) × (to ≤ clause_room) × Proper first × Floored (table_of pack.now) pack.now.relations floors.now.whole floors.now.part floors.now.tail }
-    requires k_value { (get_or profiles.now k 0 ≡ profile_of (clause_at (table_of pack.now) pack.now.relations k)) × Profiled (table_of pack.now) pack.now.relations profiles.now to }
+    requires in_room { (k < clause_room) × (to ≤ clause_room) × Proper first × Floored (table_of pack.now) pack.now.relations floors.now.whole floors.now.part floors.now.tail }
+    requires profiles { (get_or profiles.now k 0 ≡ profile_of (clause_at (table_of pack.now) pack.now.relations k)) × Profiled (table_of pack.now) pack.now.relations profiles.now to }
     ensures { (spot_rank result ≡ min (spot_rank first) (fast_rank (with_each (clause_at (table_of pack.now) pack.now.relations k) (clauses_in (table_of pack.now) pack.now.relations from to)))) × Proper result }
 {
     let mut best = first;
@@ -77,7 +77,7 @@ fn both_spot(
     start: usize,
     stop: usize,
 ) -> Witness
-    requires to_le_clause_room { (to ≤ clause_room) × (stop ≤ clause_room) × Floored (table_of pack.now) pack.now.relations floors.now.whole floors.now.part floors.now.tail }
+    requires in_room { (to ≤ clause_room) × (stop ≤ clause_room) × Floored (table_of pack.now) pack.now.relations floors.now.whole floors.now.part floors.now.tail }
     requires profiled { Profiled (table_of pack.now) pack.now.relations profiles.now to × Profiled (table_of pack.now) pack.now.relations profiles.now stop }
     ensures { (spot_rank result ≡ fast_rank (both_of (clauses_in (table_of pack.now) pack.now.relations from to) (clauses_in (table_of pack.now) pack.now.relations start stop))) × Proper result }
 {
@@ -96,7 +96,7 @@ pub fn pair_spot(
     p: usize,
     q: usize,
 ) -> Witness
-    requires p_lt_rule_room { (p < rule_room) × (q < rule_room) × Floored (table_of pack.now) pack.now.relations floors.now.whole floors.now.part floors.now.tail }
+    requires in_room { (p < rule_room) × (q < rule_room) × Floored (table_of pack.now) pack.now.relations floors.now.whole floors.now.part floors.now.tail }
     requires profiled { Profiled (table_of pack.now) pack.now.relations profiles.now (min (get_or pack.now.clauses p 0) clause_room) × Profiled (table_of pack.now) pack.now.relations profiles.now (min (get_or pack.now.clauses q 0) clause_room) }
     ensures { (spot_rank result ≡ fast_rank (both_of (rule_clauses (table_of pack.now) pack.now.relations pack.now.clauses p) (rule_clauses (table_of pack.now) pack.now.relations pack.now.clauses q))) × Proper result }
 {

@@ -32,7 +32,7 @@ fn next_with(next: u64, a: u32, y: u64) -> u64
 pub fn range_run(pack: &Pack, from: usize, to: usize, y: u64) -> Run
     requires { (to ≤ range_room) × (y ≤ cap) }
     ensures alike { Alike (λ (z : ℕ). any (in_range z) (ranges_in pack.now.low pack.now.high from to)) y result.says result.stop }
-    ensures stop_le_far { result.stop ≤ far }
+    ensures near { result.stop ≤ far }
 {
     let mut next = FAR;
     for k in from..to {

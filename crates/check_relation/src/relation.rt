@@ -18,7 +18,7 @@ use pack_rules::{Pack, Single, letter};
 fn listed_run(pack: &Pack, s: Single, y: u64) -> Run
     requires { (s.to ≤ range_room) × (y ≤ cap) }
     ensures alike { Alike (listed (relation_by pack.now.low pack.now.high s)) y result.says result.stop }
-    ensures stop_le_far { result.stop ≤ far }
+    ensures near { result.stop ≤ far }
 {
     let r = range::range_run(pack, s.from, s.to, y);
     Run {
@@ -106,9 +106,9 @@ fn upwards_by(y: u64, s: u64) -> u64
 pub fn own_run(pack: &Pack, q: Query, level: usize, s: Single, p: u64) -> Run
     requires fit { Fit q }
     requires room { Room q p }
-    requires to_le_range_room { (s.to ≤ range_room) × (level < 9) × (level ≡ tier q (relation_by pack.now.low pack.now.high s)) }
+    requires in_room { (s.to ≤ range_room) × (level < 9) × (level ≡ tier q (relation_by pack.now.low pack.now.high s)) }
     ensures alike { Alike (own_one q level (relation_by pack.now.low pack.now.high s)) p result.says result.stop }
-    ensures stop_le_far { result.stop ≤ far }
+    ensures near { result.stop ≤ far }
 {
     let k = asked_factor(q, s.operand);
     let r = listed_run(pack, s, p * k);

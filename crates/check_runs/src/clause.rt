@@ -50,7 +50,7 @@ pub fn place_of(s: Span, k: usize) -> usize
 fn digit_run(q: Query, level: usize, p: u64) -> Run
     requires { Room q p }
     ensures alike { Alike (last_digit q level) p result.says result.stop }
-    ensures stop_le_far { (result.stop ≤ far) × (result.says ≡ true → result.stop ≡ far) }
+    ensures near { (result.stop ≤ far) × (result.says ≡ true → result.stop ≡ far) }
 {
     if q.odd {
         if level == 1 {
@@ -72,10 +72,10 @@ fn digit_run(q: Query, level: usize, p: u64) -> Run
 fn run_at(pack: &Pack, s: Span, q: Query, level: usize, p: u64, k: usize, runs: &mut Runs) -> Run
     requires fit { Fit q }
     requires room { Room q p }
-    requires to_le_relation_room { (s.to ≤ relation_room) × (s.stop ≤ relation_room) × (k < size_of s) × (k < kept_room) × (level < 9) × (level ≡ tier q (relation_at (table_of pack.now) (place_of s k))) }
+    requires in_room { (s.to ≤ relation_room) × (s.stop ≤ relation_room) × (k < size_of s) × (k < kept_room) × (level < 9) × (level ≡ tier q (relation_at (table_of pack.now) (place_of s k))) }
     requires kept { Kept (table_of pack.now) s q level p runs.old.says runs.old.stop }
     ensures alike { Alike (own_one q level (relation_at (table_of pack.now) (place_of s k))) p result.says result.stop }
-    ensures kept_2 { Kept (table_of pack.now) s q level p runs.new.says runs.new.stop }
+    ensures kept_after { Kept (table_of pack.now) s q level p runs.new.says runs.new.stop }
 {
     let end = runs.stop[k];
     if p < end {
@@ -95,11 +95,11 @@ fn run_at(pack: &Pack, s: Span, q: Query, level: usize, p: u64, k: usize, runs: 
 pub fn clause_run(pack: &Pack, s: Span, q: Query, list: &LevelList, p: u64, runs: &mut Runs) -> Run
     requires fit { Fit q }
     requires room { Room q p }
-    requires to_le_relation_room { (s.to ≤ relation_room) × (s.stop ≤ relation_room) × (size_of s ≤ kept_room) × Listed (table_of pack.now) s q list.now.level list.now.at list.now.count }
+    requires in_room { (s.to ≤ relation_room) × (s.stop ≤ relation_room) × (size_of s ≤ kept_room) × Listed (table_of pack.now) s q list.now.level list.now.at list.now.count }
     requires kept { Kept (table_of pack.now) s q list.now.level p runs.old.says runs.old.stop }
     ensures alike { Alike (own q (joined_in (table_of pack.now) s) list.now.level) p result.says result.stop }
-    ensures stop_le_far { result.stop ≤ far }
-    ensures kept_2 { Kept (table_of pack.now) s q list.now.level p runs.new.says runs.new.stop }
+    ensures near { result.stop ≤ far }
+    ensures kept_after { Kept (table_of pack.now) s q list.now.level p runs.new.says runs.new.stop }
 {
     let digit = digit_run(q, list.level, p);
     if !digit.says {

@@ -56,10 +56,10 @@ fn mark_of(q: Query, s: Single, marks: &mut LevelMarks) -> usize
 // Marks the levels that the clause asks, and tells that of each relation.
 pub fn mark_levels(pack: &Pack, s: Span, q: Query, marks: &mut LevelMarks)
     requires fit { Fit q }
-    requires to_le_relation_room { (s.to ≤ relation_room) × (s.stop ≤ relation_room) × (size_of s ≤ kept_room) × (length marks.old.tiers ≡ kept_room) }
+    requires in_room { (s.to ≤ relation_room) × (s.stop ≤ relation_room) × (size_of s ≤ kept_room) × (length marks.old.tiers ≡ kept_room) }
     ensures told { Told (table_of pack.now) s q marks.new.tiers }
-    ensures by_index { (j : ℕ) → j < 9 → get_or marks.new.asked j false ≡ false → (x : ℕ) → own q (joined_in (table_of pack.now) s) j x ≡ true }
-    ensures s_value { get_or marks.new.asked 8 false ≡ false → levelled q (joined_in (table_of pack.now) s) ≡ true }
+    ensures unasked { (j : ℕ) → j < 9 → get_or marks.new.asked j false ≡ false → (x : ℕ) → own q (joined_in (table_of pack.now) s) j x ≡ true }
+    ensures all_levelled { get_or marks.new.asked 8 false ≡ false → levelled q (joined_in (table_of pack.now) s) ≡ true }
 {
     mark_digit(q, marks);
     let size = clause::size_of(s);

@@ -75,7 +75,7 @@ fn spot_of(e: u64, q: u64, i: u64) -> Witness
 // where there is no i.
 fn part_spot(pack: &Pack, s: Span, b: Bounds, p: u64, l: Floors, e: u64) -> Witness
     requires e_le_max_exponent { (e ≤ max_exponent) × (s.to ≤ relation_room) × (s.stop ≤ relation_room) × Under (joined_in (table_of pack.now) s) l }
-    requires p_value { p ≡ profile_of (bounded b (joined_in (table_of pack.now) s)) }
+    requires profile { p ≡ profile_of (bounded b (joined_in (table_of pack.now) s)) }
     ensures { (spot_rank result ≡ kind_spot false e (bounded b (joined_in (table_of pack.now) s))) × Proper result }
 {
     if !places::opens(check_profile::v_of(p), check_profile::w_of(p)) {
@@ -113,7 +113,7 @@ fn comes_first(p: u64, q: u64, i: u64) -> bool
 // The least number at e.
 fn spot_at(pack: &Pack, s: Span, b: Bounds, p: u64, l: Floors, e: u64) -> Witness
     requires e_le_max_exponent { (e ≤ max_exponent) × (s.to ≤ relation_room) × (s.stop ≤ relation_room) × Under (joined_in (table_of pack.now) s) l }
-    requires p_value { (p ≡ profile_of (bounded b (joined_in (table_of pack.now) s))) × (e ≡ exponent_of (bounded b (joined_in (table_of pack.now) s))) }
+    requires profile { (p ≡ profile_of (bounded b (joined_in (table_of pack.now) s))) × (e ≡ exponent_of (bounded b (joined_in (table_of pack.now) s))) }
     ensures { (spot_rank result ≡ clause_rank (bounded b (joined_in (table_of pack.now) s))) × Proper result }
 {
     let q = places::whole_code(p);
@@ -131,8 +131,8 @@ fn spot_at(pack: &Pack, s: Span, b: Bounds, p: u64, l: Floors, e: u64) -> Witnes
 
 // The least number of the clause whose v is within the bounds; p is the profile of both.
 pub fn clause_spot(pack: &Pack, s: Span, b: Bounds, p: u64, l: Floors) -> Witness
-    requires to_le_relation_room { (s.to ≤ relation_room) × (s.stop ≤ relation_room) × Under (joined_in (table_of pack.now) s) l }
-    requires p_value { p ≡ profile_of (bounded b (joined_in (table_of pack.now) s)) }
+    requires in_room { (s.to ≤ relation_room) × (s.stop ≤ relation_room) × Under (joined_in (table_of pack.now) s) l }
+    requires profile { p ≡ profile_of (bounded b (joined_in (table_of pack.now) s)) }
     ensures { (spot_rank result ≡ clause_rank (bounded b (joined_in (table_of pack.now) s))) × Proper result }
 {
     let e = check_profile::exponent_of(p);

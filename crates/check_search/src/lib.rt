@@ -44,7 +44,7 @@ pub fn least_admitted(pack: &Pack, s: Span, b: Bounds, p: u64, l: Floors) -> Wit
 pub fn floors_of(pack: &Pack, s: Span) -> Floors
     requires { (s.to ≤ relation_room) × (s.stop ≤ relation_room) }
     ensures under { Under (joined_in (table_of pack.now) s) result }
-    ensures whole_value { (result.whole ≡ search (query_i true) (joined_in (table_of pack.now) s) 0 (10 ^ max_digits)) × (result.part ≡ search (query_i false) (joined_in (table_of pack.now) s) 0 (10 ^ max_digits)) × (result.tail ≡ search alone (joined_in (table_of pack.now) s) 0 (10 ^ max_places)) }
+    ensures each_least { (result.whole ≡ search (query_i true) (joined_in (table_of pack.now) s) 0 (10 ^ max_digits)) × (result.part ≡ search (query_i false) (joined_in (table_of pack.now) s) 0 (10 ^ max_digits)) × (result.tail ≡ search alone (joined_in (table_of pack.now) s) 0 (10 ^ max_places)) }
 {
     let whole = clause::integer_of(pack, s, true, 0, 0);
     let part = clause::integer_of(pack, s, false, 0, 0);

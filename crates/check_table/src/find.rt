@@ -34,7 +34,7 @@ fn look(
     requires tabled { Tabled (below q (joined_in (table_of pack.now) s)) table.now.starts table.now.ends table.now.at j }
     requires kept { Kept (table_of pack.now) s q list.now.level p runs.old.says runs.old.stop }
     ensures looked { Looked (own q (joined_in (table_of pack.now) s) list.now.level) (below q (joined_in (table_of pack.now) s) j) p end result.at result.stop }
-    ensures kept_2 { Kept (table_of pack.now) s q list.now.level p runs.new.says runs.new.stop }
+    ensures kept_after { Kept (table_of pack.now) s q list.now.level p runs.new.says runs.new.stop }
 {
     let run = clause_run(pack, s, q, list, p, runs);
     if run.says {
@@ -68,7 +68,7 @@ pub fn find(
     requires tabled { Tabled (below q (joined_in (table_of pack.now) s)) table.now.starts table.now.ends table.now.at j }
     requires kept { Kept (table_of pack.now) s q list.now.level from runs.old.says runs.old.stop }
     ensures opens { Opens (own q (joined_in (table_of pack.now) s) list.now.level) (below q (joined_in (table_of pack.now) s) j) from end result.at result.stop }
-    ensures kept_2 { Kept (table_of pack.now) s q list.now.level result.stop runs.new.says runs.new.stop }
+    ensures kept_after { Kept (table_of pack.now) s q list.now.level result.stop runs.new.says runs.new.stop }
 {
     let mut p = from;
     while p < end {

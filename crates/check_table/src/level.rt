@@ -73,7 +73,7 @@ fn add_level(
     m: u64,
 ) -> Built
     requires fit { Fit q × (s.to ≤ relation_room) × (s.stop ≤ relation_room) × (size_of s ≤ kept_room) × (j < 7) × (m ≡ 10 ^ j) × Told (table_of pack.now) s q marks.now.tiers }
-    requires x_value { get_or marks.now.asked j false ≡ false → (x : ℕ) → own q (joined_in (table_of pack.now) s) j x ≡ true }
+    requires unasked { get_or marks.now.asked j false ≡ false → (x : ℕ) → own q (joined_in (table_of pack.now) s) j x ≡ true }
     requires laid { Laid table.old.starts table.old.ends table.old.at j }
     requires tabled { Tabled (below q (joined_in (table_of pack.now) s)) table.old.starts table.old.ends table.old.at j }
     ensures { BuiltAs (below q (joined_in (table_of pack.now) s)) table.new.starts table.new.ends table.new.at (j + 1) result }
@@ -97,7 +97,7 @@ fn add_level(
 // Builds the levels of the table in turn.
 pub fn build(pack: &Pack, s: Span, q: Query, marks: &LevelMarks, table: &mut NextTable) -> Built
     requires fit { Fit q × (s.to ≤ relation_room) × (s.stop ≤ relation_room) × (size_of s ≤ kept_room) × Told (table_of pack.now) s q marks.now.tiers }
-    requires by_index { (j : ℕ) → j < 9 → get_or marks.now.asked j false ≡ false → (x : ℕ) → own q (joined_in (table_of pack.now) s) j x ≡ true }
+    requires unasked { (j : ℕ) → j < 9 → get_or marks.now.asked j false ≡ false → (x : ℕ) → own q (joined_in (table_of pack.now) s) j x ≡ true }
     requires laid { Laid table.old.starts table.old.ends table.old.at 0 }
     ensures { BuiltAs (below q (joined_in (table_of pack.now) s)) table.new.starts table.new.ends table.new.at 7 result }
 {

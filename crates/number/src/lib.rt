@@ -76,7 +76,12 @@ fn shifted(negative: bool, whole: &[u8], fraction: &[u8], e: u64) -> Result<Numb
 }
 
 // The parts are told: refusals 12 to 15, or the number.
-pub fn parted(negative: bool, whole: &[u8], fraction: &[u8], exponent: &[u8]) -> Result<Number, Refusal>
+pub fn parted(
+    negative: bool,
+    whole: &[u8],
+    fraction: &[u8],
+    exponent: &[u8],
+) -> Result<Number, Refusal>
     requires { AllDigits whole.now × AllDigits fraction.now }
     ensures { result ≡ judge (parts_from negative whole.now fraction.now exponent.now) }
 {

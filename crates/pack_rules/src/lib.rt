@@ -116,7 +116,7 @@ pub fn from_at(pack: &Pack, j: usize) -> usize
 pub fn single_at(pack: &Pack, j: usize) -> Single
     requires { j < relation_room }
     ensures value { result ≡ single_at pack.now.columns j }
-    ensures to_le_range_room { result.to ≤ range_room }
+    ensures in_room { result.to ≤ range_room }
 {
     Single {
         operand: pack.columns[4 * j],

@@ -26,8 +26,8 @@ fn print_number(
     n: Number,
     out: &mut [u8],
 ) -> Result<usize, Refusal>
-    requires f_value { within p.step p.factor p.most n.i n.v.0 n.f.0 ≡ true }
-    requires n_len_bound { length (text_of (symbol_in house.now standard_record) pattern.now p n) ≤ most }
+    requires rounds { within p.step p.factor p.most n.i n.v.0 n.f.0 ≡ true }
+    requires text_fits { length (text_of (symbol_in house.now standard_record) pattern.now p n) ≤ most }
     ensures value { result ≡ answer_of (of_number house.now pattern.now p n) out.old }
     ensures out_after { out.new ≡ area_of (of_number house.now pattern.now p n) out.old }
 {

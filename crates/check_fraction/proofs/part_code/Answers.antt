@@ -24,8 +24,8 @@ least_code-requires c =
     let x = joined_in T a.s in
     let d = bounded a.b x in
     record {
-      to_le_relation_room = (c.requires.to_le_relation_room.0, c.requires.to_le_relation_room.1, c.alone_of-t.ensures, sym c.if-spares_f.true ∙ c.spares_f.ensures d c.requires.p_value);
-      settled = profile_settled d a.p c.requires.p_value _ _ c.v_of-vs.ensures c.w_of-ws.ensures;
+      in_room = (c.requires.in_room.0, c.requires.in_room.1, c.alone_of-t.ensures, sym c.if-spares_f.true ∙ c.spares_f.ensures d c.requires.profile);
+      settled = profile_settled d a.p c.requires.profile _ _ c.v_of-vs.ensures c.w_of-ws.ensures;
     }
 
 pub asked_code-requires : goal.asked_code-requires
@@ -35,6 +35,6 @@ asked_code-requires c =
     let x = joined_in T a.s in
     let d = bounded a.b x in
     record {
-      to_le_relation_room = (c.requires.to_le_relation_room.0, c.requires.to_le_relation_room.1, c.alone_of-t.ensures, sym c.if-spares_f.false ∙ c.spares_f.ensures d c.requires.p_value);
-      settled = profile_settled d a.p c.requires.p_value _ _ c.v_of-vs.ensures c.w_of-ws.ensures;
+      in_room = (c.requires.in_room.0, c.requires.in_room.1, c.alone_of-t.ensures, sym c.if-spares_f.false ∙ c.spares_f.ensures d c.requires.profile);
+      settled = profile_settled d a.p c.requires.profile _ _ c.v_of-vs.ensures c.w_of-ws.ensures;
     }

@@ -25,7 +25,7 @@ first_pair-requires c =
     let e = c.clauses_end-end in
     let f = c.fill in
     record {
-      n_le_rule_room = (omega (arith, n.ensures), c.fill-2.ensures);
+      in_room = (omega (arith, n.ensures), c.fill-2.ensures);
       profiled_rules = profiled_rules (table_of a.pack.now) a.pack.now.relations a.pack.now.clauses n.result e.result f.new.profiles f.ensures e.ensures.1;
     }
 

@@ -30,5 +30,5 @@ returns c =
     let te = found_tail d l t.result t.ensures in
     record {
       under = under_found d l we pe te;
-      whole_value = (we, pe, te);
+      each_least = (we, pe, te);
     }

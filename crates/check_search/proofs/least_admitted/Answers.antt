@@ -15,8 +15,8 @@ clause_spot-requires c =
     let T = table_of a.pack.now in
     let x = joined_in T a.s in
     record {
-      to_le_relation_room = (p.0, p.1, subst (Under x) (sym c.raise.ensures) (raised_under x a.p a.l p.2 p.3));
-      p_value = c.within.ensures x p.2;
+      in_room = (p.0, p.1, subst (Under x) (sym c.raise.ensures) (raised_under x a.p a.l p.2 p.3));
+      profile = c.within.ensures x p.2;
     }
 
 pub returns : goal.returns

@@ -10,8 +10,8 @@ print_number-requires c =
     let ep = sym c.read_pattern.ensures ∙ c.in_ok-p.was in
     let en = sym c.read_number.ensures ∙ c.in_ok-n.was in
     record {
-      f_value = ready_within a.pattern.now a.number.now c.in_ok-p.p c.in_ok-n.n ep en;
-      n_len_bound = ready_size a.symbols.now a.pattern.now c.in_ok-p.p c.in_ok-n.n es ep;
+      rounds = ready_within a.pattern.now a.number.now c.in_ok-p.p c.in_ok-n.n ep en;
+      text_fits = ready_size a.symbols.now a.pattern.now c.in_ok-p.p c.in_ok-n.n es ep;
     }
 
 pub returns : goal.returns

@@ -17,13 +17,13 @@ returns-then-n-gt0 c =
 pub write_digits-requires : goal.write_digits-requires
 write_digits-requires c =
     let r = c.round_into in
-    let e : r.new.d ≡ digits_of c.args.p c.args.n = digits_are c.args.p c.args.n (figures width 0) r.new.d refl c.requires.f_value r.ensures.d_after in
-    rw e c.requires.n_len_bound
+    let e : r.new.d ≡ digits_of c.args.p c.args.n = digits_are c.args.p c.args.n (figures width 0) r.new.d refl c.requires.rounds r.ensures.d_after in
+    rw e c.requires.text_fits
 
 pub returns : goal.returns
 returns c =
     let r = c.round_into in
-    let e : r.new.d ≡ digits_of c.args.p c.args.n = digits_are c.args.p c.args.n (figures width 0) r.new.d refl c.requires.f_value r.ensures.d_after in
+    let e : r.new.d ≡ digits_of c.args.p c.args.n = digits_are c.args.p c.args.n (figures width 0) r.new.d refl c.requires.rounds r.ensures.d_after in
     record {
       value = rw (le-ltb _ _ c.if-n-gt0.false) (rw e at c.write_digits.ensures.value);
       out_after = rw (le-ltb _ _ c.if-n-gt0.false) (rw e at c.write_digits.ensures.out_after);

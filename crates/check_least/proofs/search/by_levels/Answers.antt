@@ -17,7 +17,7 @@ pub mark_levels-requires : goal.mark_levels-requires
 mark_levels-requires c = let p = c.requires in
     record {
       fit = p.0;
-      to_le_relation_room = (p.3, p.4, omega (arith, c.size_of.ensures, c.if-size_of-gt-KEPT.false), length-replicate {A = ℕ} 16 0);
+      in_room = (p.3, p.4, omega (arith, c.size_of.ensures, c.if-size_of-gt-KEPT.false), length-replicate {A = ℕ} 16 0);
     }
 
 pub try_each-requires-then-marks-offset8 : goal.try_each-requires-then-marks-offset8
@@ -30,6 +30,6 @@ pub by_window-requires : goal.by_window-requires
 by_window-requires c = let m = c.mark_levels.ensures in let p = c.requires in
     record {
       fit = (p.0, p.1, p.2, p.3, p.4, omega (arith, c.size_of.ensures, c.if-size_of-gt-KEPT.false), m.told);
-      s_value = m.s_value c.if-marks-offset8.false;
-      by_index = m.by_index;
+      all_levelled = m.all_levelled c.if-marks-offset8.false;
+      unasked = m.unasked;
     }

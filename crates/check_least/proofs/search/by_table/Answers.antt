@@ -26,4 +26,4 @@ find-f-requires c = let a = c.args in let T = table_of a.pack.now in let p = c.r
     }
 
 pub returns : goal.returns
-returns c = let a = c.args in let T = table_of a.pack.now in least_levelled a.q (joined_in T a.s) c.requires.s_value (rw c.list_level-list.ensures.level at c.find-f.ensures.opens)
+returns c = let a = c.args in let T = table_of a.pack.now in least_levelled a.q (joined_in T a.s) c.requires.all_levelled (rw c.list_level-list.ensures.level at c.find-f.ensures.opens)

@@ -9,7 +9,7 @@ build-b-requires c =
     let p = c.requires in
     record {
       fit = (p.fit.0, p.fit.3, p.fit.4, p.fit.5, p.fit.6);
-      by_index = p.by_index;
+      unasked = p.unasked;
       laid = laid_fresh;
     }
 
@@ -19,7 +19,7 @@ by_table-requires c =
     let b = c.build-b.ensures.stands c.in-Stands.is in
     record {
       fit = p.fit;
-      s_value = p.s_value;
+      all_levelled = p.all_levelled;
       laid = b.0;
       tabled = b.1;
     }
@@ -38,7 +38,7 @@ returns-in-Empty c =
     let p = c.requires in
     let T = table_of a.pack.now in
     let c' = joined_in T a.s in
-    least_empty a.q c' p.s_value a.lo a.hi p.fit.2 (c.build-b.ensures.empty c.in-Empty.is)
+    least_empty a.q c' p.all_levelled a.lo a.hi p.fit.2 (c.build-b.ensures.empty c.in-Empty.is)
 
 pub returns-in-Full : goal.returns-in-Full
 returns-in-Full c = c.try_each.ensures

@@ -26,7 +26,7 @@ clause_run-run-requires c = let a = c.args in let T = table_of a.pack.now in let
     record {
       fit = p.0;
       room = room_le a.q c.loop-p.p a.hi p.1 (omega (arith, c.loop-p-test.true));
-      to_le_relation_room = (p.3, p.4, p.5, subst (λ (k : ℕ). Listed T a.s a.q k v.result.at v.result.count) (sym v.ensures.level) (gathered_listed T a.s a.q window a.marks.now.tiers v.result.at v.result.count c.size_of.result (omega arith) p.6 c.size_of.ensures (omega (arith, c.size_of.ensures, p.5)) v.ensures.gathered));
+      in_room = (p.3, p.4, p.5, subst (λ (k : ℕ). Listed T a.s a.q k v.result.at v.result.count) (sym v.ensures.level) (gathered_listed T a.s a.q window a.marks.now.tiers v.result.at v.result.count c.size_of.result (omega arith) p.6 c.size_of.ensures (omega (arith, c.size_of.ensures, p.5)) v.ensures.gathered));
       kept = i.1;
     }
 
@@ -37,7 +37,7 @@ pub loop-p-smaller : goal.loop-p-smaller
 loop-p-smaller c = omega (arith, c.clause_run-run.ensures.alike.some, c.loop-p-test.true)
 
 pub loop-p-preserved : goal.loop-p-preserved
-loop-p-preserved c = let a = c.args in let T = table_of a.pack.now in let p = c.requires in let i = c.loop-p.invariant in let x = joined_in T a.s in let r = c.clause_run-run.ensures in let k = rw c.list_level-list.ensures.level at r.alike in (passed_more (own a.q x window) a.lo a.hi c.loop-p.p i.0 c.clause_run-run.result.stop (omega (arith, k.some)) (λ x b e. k.same x b e ∙ c.if-run.false), λ j h x b. r.kept_2 j h x (omega (arith, k.some)))
+loop-p-preserved c = let a = c.args in let T = table_of a.pack.now in let p = c.requires in let i = c.loop-p.invariant in let x = joined_in T a.s in let r = c.clause_run-run.ensures in let k = rw c.list_level-list.ensures.level at r.alike in (passed_more (own a.q x window) a.lo a.hi c.loop-p.p i.0 c.clause_run-run.result.stop (omega (arith, k.some)) (λ x b e. k.same x b e ∙ c.if-run.false), λ j h x b. r.kept_after j h x (omega (arith, k.some)))
 
 pub returns : goal.returns
 returns c = let a = c.args in let T = table_of a.pack.now in let p = c.requires in let i = c.loop-p.invariant in let x = joined_in T a.s in passed_end (own a.q x window) a.lo a.hi c.loop-p.p i.0 p.2 (omega (arith, c.loop-p-test.false))

@@ -13,13 +13,13 @@ loop-k-init c = refl
 pub later_clash-c-requires : goal.later_clash-c-requires
 later_clash-c-requires c =
     record {
-      p_lt_n = (c.loop-k-test.true, c.requires.n_le_rule_room.0, c.requires.n_le_rule_room.1);
+      in_room = (c.loop-k-test.true, c.requires.in_room.0, c.requires.in_room.1);
       profiled_rules = c.requires.profiled_rules;
     }
 
 pub of_rules-requires : goal.of_rules-requires
 of_rules-requires c =
-    (omega (arith, c.requires.n_le_rule_room.0), omega (arith, c.requires.n_le_rule_room.0))
+    (omega (arith, c.requires.in_room.0), omega (arith, c.requires.in_room.0))
 
 pub returns-then-c-n : goal.returns-then-c-n
 returns-then-c-n c =

@@ -7,15 +7,15 @@ use borrow.Author.Rules.{rules}
 use Rattle.check_pairs.proofs.first.later_clash.Goals as goal
 
 pub loop-q-init : goal.loop-q-init
-loop-q-init c = (omega (arith, c.requires.p_lt_n.0), λ rest. refl)
+loop-q-init c = (omega (arith, c.requires.in_room.0), λ rest. refl)
 
 pub pair_spot-spot-requires : goal.pair_spot-spot-requires
 pair_spot-spot-requires c =
     let p = c.requires in
     let a = c.args in
     record {
-      p_lt_rule_room = (omega (arith, p.p_lt_n.0, p.p_lt_n.1), omega (arith, p.p_lt_n.1, c.loop-q-test.true), p.p_lt_n.2);
-      profiled = (p.profiled_rules a.p p.p_lt_n.0, p.profiled_rules c.loop-q.q c.loop-q-test.true);
+      in_room = (omega (arith, p.in_room.0, p.in_room.1), omega (arith, p.in_room.1, c.loop-q-test.true), p.in_room.2);
+      profiled = (p.profiled_rules a.p p.in_room.0, p.profiled_rules c.loop-q.q c.loop-q-test.true);
     }
 
 pub returns-then-spot-lt-NO_EXPONENT : goal.returns-then-spot-lt-NO_EXPONENT

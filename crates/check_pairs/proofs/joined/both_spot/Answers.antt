@@ -17,8 +17,8 @@ pub with_each-best-requires : goal.with_each-best-requires
 with_each-best-requires c =
     let p = c.requires in
     record {
-      k_lt_clause_room = (omega (arith, p.to_le_clause_room.0, c.loop-k-test.true), p.to_le_clause_room.1, c.loop-k.invariant.1, p.to_le_clause_room.2);
-      k_value = (p.profiled.0 c.loop-k.k c.loop-k-test.true, p.profiled.1);
+      in_room = (omega (arith, p.in_room.0, c.loop-k-test.true), p.in_room.1, c.loop-k.invariant.1, p.in_room.2);
+      profiles = (p.profiled.0 c.loop-k.k c.loop-k-test.true, p.profiled.1);
     }
 
 pub loop-k-preserved : goal.loop-k-preserved

@@ -10,7 +10,7 @@ both_spot-requires c =
     let to = c.stop_at-to.ensures in
     let stop = c.stop_at-stop.ensures in
     record {
-      to_le_clause_room = (omega (arith, to), omega (arith, stop), p.p_lt_rule_room.2);
+      in_room = (omega (arith, to), omega (arith, stop), p.in_room.2);
       profiled = (λ j h. p.profiled.0 j (omega (arith, to, h)), λ j h. p.profiled.1 j (omega (arith, stop, h)));
     }
 

@@ -8,14 +8,14 @@ use borrow.Author.Rules.{rules}
 use Rattle.check_pairs.proofs.joined.with_each.Goals as goal
 
 pub loop-l-init : goal.loop-l-init
-loop-l-init c = (refl, c.requires.k_lt_clause_room.2)
+loop-l-init c = (refl, c.requires.in_room.2)
 
 pub joined_spot-requires : goal.joined_spot-requires
 joined_spot-requires c =
     let p = c.requires in
     record {
-      k_lt_clause_room = (p.k_lt_clause_room.0, omega (arith, p.k_lt_clause_room.1, c.loop-l-test.true), p.k_lt_clause_room.3);
-      k_value = (p.k_value.0, p.k_value.1 c.loop-l.l c.loop-l-test.true);
+      in_room = (p.in_room.0, omega (arith, p.in_room.1, c.loop-l-test.true), p.in_room.3);
+      profiles = (p.profiles.0, p.profiles.1 c.loop-l.l c.loop-l-test.true);
     }
 
 pub earlier-best-requires : goal.earlier-best-requires

@@ -9,8 +9,8 @@ loop-k-init c = let a = c.args in sweep_start a.pack.now.low a.pack.now.high a.f
 pub returns-then-in_range-clause-alike : goal.returns-then-in_range-clause-alike
 returns-then-in_range-clause-alike c = let a = c.args in let l = c.loop-k in sweep_in a.pack.now.low a.pack.now.high a.from a.to a.y l.next l.k _ c.in_range.result c.loop-k-test.true l.invariant (search rules) c.if-in_range.true (search rules)
 
-pub returns-then-in_range-clause-stop_le_far : goal.returns-then-in_range-clause-stop_le_far
-returns-then-in_range-clause-stop_le_far c = let a = c.args in let l = c.loop-k in c.behind.ensures.1
+pub returns-then-in_range-clause-near : goal.returns-then-in_range-clause-near
+returns-then-in_range-clause-near c = let a = c.args in let l = c.loop-k in c.behind.ensures.1
 
 pub loop-k-preserved : goal.loop-k-preserved
 loop-k-preserved c = let a = c.args in let l = c.loop-k in sweep_more a.pack.now.low a.pack.now.high a.from a.to a.y l.next l.k c.next_with-next.result c.in_range.result c.loop-k-test.true l.invariant (search rules) c.if-in_range.false (search rules)
@@ -18,5 +18,5 @@ loop-k-preserved c = let a = c.args in let l = c.loop-k in sweep_more a.pack.now
 pub returns-clause-alike : goal.returns-clause-alike
 returns-clause-alike c = let a = c.args in let l = c.loop-k in sweep_out a.pack.now.low a.pack.now.high a.from a.to a.y l.next l.k c.loop-k-test.false l.invariant
 
-pub returns-clause-stop_le_far : goal.returns-clause-stop_le_far
-returns-clause-stop_le_far c = let a = c.args in let l = c.loop-k in l.invariant.near
+pub returns-clause-near : goal.returns-clause-near
+returns-clause-near c = let a = c.args in let l = c.loop-k in l.invariant.near

@@ -15,8 +15,8 @@ returns-then-p-end c =
     let a = c.args in
     let p = c.requires in
     record {
-      alike = kept_there (table_of a.pack.now) a.s a.q a.level a.p a.runs.now.says a.runs.now.stop a.k p.kept p.to_le_relation_room.2 c.if-p-end.true;
-      kept_2 = p.kept;
+      alike = kept_there (table_of a.pack.now) a.s a.q a.level a.p a.runs.now.says a.runs.now.stop a.k p.kept p.in_room.2 c.if-p-end.true;
+      kept_after = p.kept;
     }
 
 pub single_at-requires : goal.single_at-requires
@@ -31,7 +31,7 @@ own_run-r-requires c =
     record {
       fit = p.fit;
       room = p.room;
-      to_le_range_room = (e.to_le_range_room, p.to_le_relation_room.4, p.to_le_relation_room.5 ∙ ap (λ (j : ℕ). tier a.q (relation_at T j)) (sym c.place_of.ensures.value) ∙ ap (λ (s : Single). tier a.q (relation_by a.pack.now.low a.pack.now.high s)) (sym e.value));
+      in_room = (e.in_room, p.in_room.4, p.in_room.5 ∙ ap (λ (j : ℕ). tier a.q (relation_at T j)) (sym c.place_of.ensures.value) ∙ ap (λ (s : Single). tier a.q (relation_by a.pack.now.low a.pack.now.high s)) (sym e.value));
     }
 
 pub returns : goal.returns
@@ -43,5 +43,5 @@ returns c =
     let f : Alike (own_one a.q a.level (relation_of T a.s a.k)) a.p r.says r.stop = subst (λ (s : Single). Alike (own_one a.q a.level (relation_by a.pack.now.low a.pack.now.high s)) a.p r.says r.stop) e c.own_run-r.ensures.alike in
     record {
       alike = f;
-      kept_2 = kept_set T a.s a.q a.level a.p a.runs.now.says a.runs.now.stop a.k r.stop r.says (omega (arith, c.requires.to_le_relation_room.3)) (omega (arith, c.requires.to_le_relation_room.3)) f c.requires.kept;
+      kept_after = kept_set T a.s a.q a.level a.p a.runs.now.says a.runs.now.stop a.k r.stop r.says (omega (arith, c.requires.in_room.3)) (omega (arith, c.requires.in_room.3)) f c.requires.kept;
     }

@@ -17,17 +17,17 @@ loop-k-preserved c =
     let m = c.mark_of-tier in
     let e = c.single_at.ensures.value ∙ ap (single_at a.pack.now.columns) c.place_of.ensures.value in
     let k = subst (Telling T a.s a.q l.k) (sym m.ensures.tiers_kept) l.invariant.2 in
-    (marks_more T a.s a.q l.k l.marks.asked m.new.marks.asked (omega (arith, l.invariant.1, c.loop-k-test.true)) l.invariant.0 (subst (λ (s : Single). Noted a.q (relation_by a.pack.now.low a.pack.now.high s) m.new.marks.asked) e (m.ensures.noted a.pack.now.low a.pack.now.high)) m.ensures.grown, l.invariant.1, telling_more T a.s a.q l.k m.result m.new.marks.tiers (omega (arith, l.invariant.1, c.loop-k-test.true, c.requires.to_le_relation_room.2)) k (m.ensures.tier a.pack.now.low a.pack.now.high ∙ ap (λ (s : Single). tier a.q (relation_by a.pack.now.low a.pack.now.high s)) e))
+    (marks_more T a.s a.q l.k l.marks.asked m.new.marks.asked (omega (arith, l.invariant.1, c.loop-k-test.true)) l.invariant.0 (subst (λ (s : Single). Noted a.q (relation_by a.pack.now.low a.pack.now.high s) m.new.marks.asked) e (m.ensures.noted a.pack.now.low a.pack.now.high)) m.ensures.grown, l.invariant.1, telling_more T a.s a.q l.k m.result m.new.marks.tiers (omega (arith, l.invariant.1, c.loop-k-test.true, c.requires.in_room.2)) k (m.ensures.tier a.pack.now.low a.pack.now.high ∙ ap (λ (s : Single). tier a.q (relation_by a.pack.now.low a.pack.now.high s)) e))
 
-pub returns-clause-by_index : goal.returns-clause-by_index
-returns-clause-by_index c =
+pub returns-clause-unasked : goal.returns-clause-unasked
+returns-clause-unasked c =
     let a = c.args in
     let l = c.loop-k in
     let h : size_of a.s ≤ l.k = omega (arith, l.invariant.1, c.loop-k-test.false) in
     λ j m e x. marks_own (table_of a.pack.now) a.s a.q l.k l.marks.asked h l.invariant.0 j e x
 
-pub returns-clause-s_value : goal.returns-clause-s_value
-returns-clause-s_value c =
+pub returns-clause-all_levelled : goal.returns-clause-all_levelled
+returns-clause-all_levelled c =
     let a = c.args in
     let l = c.loop-k in
     let h : size_of a.s ≤ l.k = omega (arith, l.invariant.1, c.loop-k-test.false) in

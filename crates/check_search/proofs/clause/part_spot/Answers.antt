@@ -17,7 +17,7 @@ use borrow.Author.Rules.{rules}
 use Rattle.check_search.proofs.clause.part_spot.Goals as goal
 
 pub returns-then-not-opens : goal.returns-then-not-opens
-returns-then-not-opens c = let a = c.args in let T = table_of a.pack.now in let x = joined_in T a.s in let d = bounded a.b x in (kind_no_fraction false a.e d _ _ (code_part d false _ refl (c.opens.ensures (not-true _ c.if-not-opens.true-raw) d (profile_settled d a.p c.requires.p_value _ _ c.v_of.ensures c.w_of.ensures))) (omega arith) c.nowhere.ensures.0, c.nowhere.ensures.1)
+returns-then-not-opens c = let a = c.args in let T = table_of a.pack.now in let x = joined_in T a.s in let d = bounded a.b x in (kind_no_fraction false a.e d _ _ (code_part d false _ refl (c.opens.ensures (not-true _ c.if-not-opens.true-raw) d (profile_settled d a.p c.requires.profile _ _ c.v_of.ensures c.w_of.ensures))) (omega arith) c.nowhere.ensures.0, c.nowhere.ensures.1)
 
 pub returns-then-l-ge-FRACTION_LIMIT : goal.returns-then-l-ge-FRACTION_LIMIT
 returns-then-l-ge-FRACTION_LIMIT c = let a = c.args in let T = table_of a.pack.now in let x = joined_in T a.s in let d = bounded a.b x in (kind_no_fraction false a.e d _ _ (code_part d false _ refl (part_none d (10 ^ max_places) (tail_past x a.l.tail c.requires.e_le_max_exponent.3.tail c.if-l-ge-FRACTION_LIMIT.true ∙ bounded_alone a.b x) (omega arith))) (omega arith) c.nowhere-then-l-ge-FRACTION_LIMIT.ensures.0, c.nowhere-then-l-ge-FRACTION_LIMIT.ensures.1)
@@ -31,8 +31,8 @@ returns-then-i-ge-INTEGER_LIMIT c = let a = c.args in let T = table_of a.pack.no
 pub part_code-q-requires : goal.part_code-q-requires
 part_code-q-requires c =
     record {
-      to_le_relation_room = (c.requires.e_le_max_exponent.1, c.requires.e_le_max_exponent.2, c.requires.e_le_max_exponent.3.tail);
-      p_value = c.requires.p_value;
+      in_room = (c.requires.e_le_max_exponent.1, c.requires.e_le_max_exponent.2, c.requires.e_le_max_exponent.3.tail);
+      profile = c.requires.profile;
     }
 
 pub returns-then-q-ge-FRACTIONS : goal.returns-then-q-ge-FRACTIONS

@@ -23,7 +23,7 @@ returns-then-f c =
     let l = c.look-f in
     record {
       opens = opens_found i.0 i.1 l.ensures.looked (omega (arith, c.if-f.true));
-      kept_2 = λ k h x b. l.ensures.kept_2 k h x (omega (arith, l.ensures.looked.low, c.if-f.true));
+      kept_after = λ k h x b. l.ensures.kept_after k h x (omega (arith, l.ensures.looked.low, c.if-f.true));
     }
 
 pub loop-p-smaller : goal.loop-p-smaller
@@ -34,7 +34,7 @@ pub loop-p-preserved : goal.loop-p-preserved
 loop-p-preserved c =
     let i = c.loop-p.invariant in
     let l = c.look-f in
-    (omega (arith, i.0, l.ensures.looked.low), none_to i.0 i.1 l.ensures.looked, λ k h x b. l.ensures.kept_2 k h x (omega (arith, l.ensures.looked.low)))
+    (omega (arith, i.0, l.ensures.looked.low), none_to i.0 i.1 l.ensures.looked, λ k h x b. l.ensures.kept_after k h x (omega (arith, l.ensures.looked.low)))
 
 pub returns : goal.returns
 returns c =
@@ -42,5 +42,5 @@ returns c =
     let i = c.loop-p.invariant in
     record {
       opens = opens_none p.fit.2 (omega (arith, c.loop-p-test.false)) i.1;
-      kept_2 = i.2;
+      kept_after = i.2;
     }

@@ -14,7 +14,7 @@ clause_run-run-requires c =
     record {
       fit = p.fit.0;
       room = room_le a.q a.p a.end p.fit.1 (omega (arith, p.fit.2));
-      to_le_relation_room = (p.fit.3, p.fit.4, p.fit.5, p.fit.6);
+      in_room = (p.fit.3, p.fit.4, p.fit.5, p.fit.6);
       kept = p.kept;
     }
 
@@ -30,12 +30,12 @@ returns-then-run c =
     let T = table_of a.pack.now in
     record {
       looked = looked_on c.if-run.true c.clause_run-run.ensures.alike (c.next.ensures.1 (below a.q (joined_in T a.s)) p.tabled) c.min.ensures p.fit.2;
-      kept_2 = c.clause_run-run.ensures.kept_2;
+      kept_after = c.clause_run-run.ensures.kept_after;
     }
 
 pub returns : goal.returns
 returns c =
     record {
       looked = looked_off c.if-run.false c.clause_run-run.ensures.alike;
-      kept_2 = c.clause_run-run.ensures.kept_2;
+      kept_after = c.clause_run-run.ensures.kept_after;
     }

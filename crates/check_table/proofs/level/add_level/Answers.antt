@@ -14,7 +14,7 @@ returns-then-not-marks-j c =
     let a = c.args in
     let p = c.requires in
     let c' = joined_in (table_of a.pack.now) a.s in
-    added_free a.q c' p.laid p.tabled p.fit.4 (p.x_value c.if-not-marks-j.true)
+    added_free a.q c' p.laid p.tabled p.fit.4 (p.unasked c.if-not-marks-j.true)
 
 pub fill_level-end-requires : goal.fill_level-end-requires
 fill_level-end-requires c =

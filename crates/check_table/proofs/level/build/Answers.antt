@@ -14,7 +14,7 @@ add_level-requires c =
     let i = c.loop-j.invariant in
     record {
       fit = (p.fit.0, p.fit.1, p.fit.2, p.fit.3, omega (arith, c.loop-j-test.true), i.power, p.fit.4);
-      x_value = λ e. p.by_index c.loop-j.j (omega arith) e;
+      unasked = λ e. p.unasked c.loop-j.j (omega arith) e;
       laid = i.laid;
       tabled = i.tabled;
     }

@@ -59,7 +59,7 @@ pub loop-p-smaller : goal.loop-p-smaller
 loop-p-smaller c = let a = c.args in let T = table_of a.pack.now in let p = c.requires in let i = c.loop-p.invariant in let o = (rw c.list_level-list.ensures.level at c.find-f.ensures.opens) in omega (arith, o.least.low, o.some (omega (arith, c.if-m-f.false)), c.loop-p-test.true)
 
 pub loop-p-preserved : goal.loop-p-preserved
-loop-p-preserved c = let a = c.args in let T = table_of a.pack.now in let p = c.requires in let i = c.loop-p.invariant in let o = (rw c.list_level-list.ensures.level at c.find-f.ensures.opens) in (filling_more i.0 o (level_small a.j a.m p.fit.4 p.fit.5) (omega (arith, c.if-n-ge-ROOM.false)) (omega (arith, c.if-m-f.false)), i.1, c.find-f.ensures.kept_2)
+loop-p-preserved c = let a = c.args in let T = table_of a.pack.now in let p = c.requires in let i = c.loop-p.invariant in let o = (rw c.list_level-list.ensures.level at c.find-f.ensures.opens) in (filling_more i.0 o (level_small a.j a.m p.fit.4 p.fit.5) (omega (arith, c.if-n-ge-ROOM.false)) (omega (arith, c.if-m-f.false)), i.1, c.find-f.ensures.kept_after)
 
 pub returns : goal.returns
 returns c = let p = c.requires in let i = c.loop-p.invariant in
