@@ -55,10 +55,8 @@ fn print_reading(rt: &impl Print, reading: Result<Pattern, Refusal>) -> io::Resu
 
 fn print_all(rt: &impl Print, input: &[u8]) -> io::Result<()> {
     for line in input.split_inclusive(|b| *b == b'\n') {
-        print_reading(
-            rt,
-            pattern_reader::read_pattern(line.strip_suffix(b"\n").unwrap_or(line)),
-        )?;
+        let text = line.strip_suffix(b"\n").unwrap_or(line);
+        print_reading(rt, pattern_reader::read_pattern(text))?;
     }
     Ok(())
 }
