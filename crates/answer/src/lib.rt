@@ -99,7 +99,8 @@ pub enum Refusal {
 // No row has more figures.
 pub const MAX_FIGURES: usize = 7;
 
-// The figures of a refusal: the first `count` of `values`, and zeros behind them.
+// The figures of a refusal: the first `count` of `values`, and zeros behind them. There is no heap here:
+// an array and how much of it counts.
 #[derive(Clone, Copy)]
 pub struct FigureList {
     pub count: usize,
@@ -116,7 +117,7 @@ pub enum Keyword {
     Other,
 }
 
-// A keyword's letters: the first `len` of `letters`, and zeros behind them.
+// A keyword's letters: the first `len` of `letters`, and zeros behind them, for the same reason.
 #[derive(Clone, Copy)]
 pub struct Letters {
     pub len: usize,

@@ -109,6 +109,7 @@ fn append_job(out: &mut [u8], at: usize, line: &[u8]) -> usize
     let fields = after(line, 2);
     match read_job(line) {
         JobCut::SelectAt(n) => {
+            // In two cuts: n + 1 has no bound here.
             let number = after(after(fields, n), 1);
             append_selection(out, at, select_text::select(upto(fields, n), number))
         }

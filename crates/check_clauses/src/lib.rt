@@ -15,7 +15,8 @@ use pack_rules::CLAUSE_ROOM;
 // A number for each clause of a pack.
 pub type PerClause = [u64; CLAUSE_ROOM];
 
-// The floors of a pack's clauses, as crate check_laws has them of one.
+// The floors of a pack's clauses, as crate check_laws has them of one. Three arrays, since the definition
+// Floored speaks of each.
 #[derive(Drop)]
 pub struct ClauseFloors {
     pub whole: PerClause,

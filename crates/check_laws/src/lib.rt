@@ -39,7 +39,7 @@ impl Clash {
 }
 
 // The first rule behind a rule that clashes with it, and the number that meets both; `at` is past the
-// rules where none does.
+// rules where none does: the definition `answered` compares it with their count.
 #[derive(Clone, Copy)]
 pub struct LaterClash {
     pub at: usize,

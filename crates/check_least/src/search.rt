@@ -50,6 +50,7 @@ fn in_window(pack: &Pack, s: Span, q: Query, marks: &LevelMarks, lo: u64, hi: u6
         stop: [0; KEPT],
     };
     let mut p = lo;
+    // By runs: a turn goes on where the run ends.
     while p < hi {
         let run = clause_run(pack, s, q, &list, p, &mut runs);
         if run.says {

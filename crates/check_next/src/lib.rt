@@ -16,7 +16,8 @@ pub type Segments = [u32; ROOM];
 
 pub type LevelPlaces = [usize; 8];
 
-// The segments of all levels: where they start and end, and where those of each level begin.
+// The segments of all levels: where they start and end, and where those of each level begin. Arrays of
+// fixed size, since there is no heap; two of them, since the definitions Laid and Tabled speak of each.
 #[derive(Drop)]
 pub struct NextTable {
     pub starts: Segments,

@@ -7,7 +7,7 @@ use answer::Witness;
 use check_laws::limits;
 use decimal::{DigitValue, Places};
 
-// No number: its rank is past all ranks.
+// No number: its rank is past all ranks, so that the earlier of two needs no case for it.
 pub fn nowhere() -> Witness
     ensures { (spot_rank result ≡ ranks) × Proper result }
 {

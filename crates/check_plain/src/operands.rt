@@ -37,6 +37,7 @@ fn strip(v: u8, f: u64) -> Trimmed
 {
     let mut w = v;
     let mut t = f;
+    // Two numbers change in each turn, and the end depends on one of them.
     while 0 < w {
         if t % 10 != 0 {
             return Trimmed {

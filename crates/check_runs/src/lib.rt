@@ -11,7 +11,8 @@ pub mod marks;
 // How many relations of a clause have room for what is kept of each.
 pub const KEPT: usize = 16;
 
-// What is kept of each relation of a clause at a level: the run that was found last.
+// What is kept of each relation of a clause at a level: the run that was found last. Two arrays, since the
+// definition Kept speaks of each; of fixed size, since there is no heap.
 #[derive(Drop)]
 pub struct Runs {
     pub says: [bool; KEPT],
@@ -25,7 +26,7 @@ pub struct LevelMarks {
     pub tiers: [usize; KEPT],
 }
 
-// The relations of a clause that are of one level: the first `count` of `at`.
+// The relations of a clause that are of one level: the first `count` of `at`, since there is no heap.
 #[derive(Drop)]
 pub struct LevelList {
     pub level: usize,

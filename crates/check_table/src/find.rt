@@ -71,6 +71,7 @@ pub fn find(
     ensures kept_after { Kept (table_of pack.now) s q list.now.level result.stop runs.new.says runs.new.stop }
 {
     let mut p = from;
+    // By runs: a turn goes on where the run ends.
     while p < end {
         let f = look(pack, s, q, list, table, j, p, end, runs);
         if f.at < f.stop {

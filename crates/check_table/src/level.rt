@@ -46,6 +46,7 @@ fn fill_level(
     let list = list_level(marks, size_of(s), j);
     let mut n = table.at[j];
     let mut p: u64 = 0;
+    // By segments: a turn goes on where the one that is found ends.
     while p < m {
         let f = find::find(pack, s, q, &list, table, j, p, m, &mut runs);
         if m <= f.at {

@@ -3,7 +3,9 @@
 //
 // The entry is write_text. specs/Layout.antt says which digits are shown and how they are grouped,
 // specs/Text.antt what stands around them, specs/Plain.antt which bytes are copied there. Every
-// function is total; what an area has no room for is counted and not written.
+// function is total; what an area has no room for is counted and not written. The area and the place
+// reached in it go through as two parameters, as in crate area: a struct would have to lend the area
+// on at each call.
 #![tactic(auto)]
 
 ghost use Rattle.std.specs.Prelude.{◌≡◌, [], ◌-◌, max, min, if◌then◌else◌};

@@ -43,6 +43,7 @@ fn read_point(negative: bool, whole: &[u8], s: &[u8]) -> Result<Number, Refusal>
     requires { AllDigits whole.now }
     ensures { result ≡ judged (point_at negative whole.now s.now) }
 {
+    // Cut by a flag: two ways on would be several times as slow for a short number.
     let pointed = cut::begins_with(s, b'.');
     let behind = cut::after(s, usize::from(pointed));
     let n = if pointed { scan::digit_run(behind) } else { 0 };
@@ -69,6 +70,7 @@ pub fn read_number(text: &[u8]) -> Result<Number, Refusal>
     if number::MAX_BYTES < text.len() {
         return number::refuse(NumberRow::NumberTooLong);
     }
+    // Here too.
     let negative = cut::begins_with(text, b'-');
     read_whole(negative, cut::after(text, usize::from(negative)))
 }

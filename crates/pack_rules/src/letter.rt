@@ -1,4 +1,5 @@
-// The letters by which a pack names its operands; `c` is read as `e`.
+// The letters by which a pack names its operands; `c` is read as `e`. They are numbers, since they stand in a
+// pack's columns, where any number can stand.
 pub const N: u32 = 110;
 
 pub const I: u32 = 105;

@@ -10,7 +10,7 @@ ghost use Rattle.pattern_affix.specs.Affixes.{reserves, any_reserved, ends_affix
 
 use pattern_token::{Item, Mark, Token, is_number, items_of, quoted_after, token_in};
 
-// An affix: how many bytes it has, and whether it leaves no quote open.
+// An affix: how many bytes it has, and whether it leaves no quote open. It has a length either way.
 #[derive(Clone, Copy)]
 pub struct Affix {
     pub len: usize,

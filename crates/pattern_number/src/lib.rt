@@ -13,7 +13,7 @@ const STEP_CAP: u64 = 1_000_000;
 
 // What a number part asks for: `fits` where it has the grammar; least integer digits, integer places,
 // least and most fraction digits, group sizes (0: no groups), and the step in units of the last
-// fraction place.
+// fraction place. A flag and no Option: the definition shape_of has every number for any bytes.
 #[derive(Clone, Copy)]
 pub struct Shape {
     pub fits: bool,

@@ -8,7 +8,7 @@ ghost use Rattle.select.specs.Select.{bit, mask_of};
 use number::Number;
 use pack_rules::{CLAUSE_ROOM, Pack, RULE_ROOM, start_at, stop_at};
 
-// The bit k set where `on` is true.
+// The bit k set where `on` is true. Of 32 bits: the machine counts a word's bits and zeros by one step.
 fn with_bit(mask: u32, k: u32, on: bool) -> u32
     requires { (mask < 2 ^ k) × (k < rule_room) }
     ensures { result ≡ mask + bit on * 2 ^ k }
