@@ -28,6 +28,7 @@ fn print_reading(rt: &impl Print, text: &[u8]) -> io::Result<()> {
     }
 }
 
+// Each table goes over its own lines: what it does with one is all that there is to it.
 fn print_all(rt: &impl Print, input: &[u8]) -> io::Result<()> {
     for line in input.split_inclusive(|b| *b == b'\n') {
         print_reading(rt, line.strip_suffix(b"\n").unwrap_or(line))?;

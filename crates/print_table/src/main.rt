@@ -38,6 +38,7 @@ fn print_line(rt: &impl Print, line: &[u8]) -> io::Result<()> {
     write_answer(rt, r, &out)
 }
 
+// Each table goes over its own lines: what it does with one is all that there is to it.
 fn print_all(rt: &impl Print, input: &[u8]) -> io::Result<()> {
     for line in input.split_inclusive(|b| *b == b'\n') {
         print_line(rt, line.strip_suffix(b"\n").unwrap_or(line))?;

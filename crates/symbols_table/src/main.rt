@@ -47,6 +47,7 @@ fn print_record(rt: &impl Print, record: &[u8]) -> io::Result<()> {
     println!(rt)
 }
 
+// Each table goes over its own lines: what it does with one is all that there is to it.
 fn print_all(rt: &impl Print, input: &[u8]) -> io::Result<()> {
     for line in input.split_inclusive(|b| *b == b'\n') {
         print_record(rt, line.strip_suffix(b"\n").unwrap_or(line))?;
