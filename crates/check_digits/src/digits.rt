@@ -94,7 +94,6 @@ fn all_spared(pack: &Pack, from: usize, to: usize, m: u32) -> u64
 
 // The last digits of the numbers that the relation may hold of.
 pub fn digits_of(pack: &Pack, s: Single) -> u64
-    requires { s.to ≤ range_room }
     ensures { (result ≡ values_of (λ (d : ℕ). ends_in d (relation_by pack.now.low pack.now.high s)) 10) × (result < 1_024) }
 {
     let m = s.modulus;

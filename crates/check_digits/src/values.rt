@@ -32,7 +32,7 @@ pub fn with_bit(mask: u64, place: u64, on: bool) -> u64
 
 // The values below n at which the relation holds.
 fn values_of(pack: &Pack, s: Single, n: u64) -> u64
-    requires { (s.to ≤ range_room) × (n ≤ 15) }
+    requires { n ≤ 15 }
     ensures { result ≡ values_of (test (relation_by pack.now.low pack.now.high s)) n }
 {
     let mut mask: u64 = 0;
@@ -47,14 +47,12 @@ fn values_of(pack: &Pack, s: Single, n: u64) -> u64
 
 // The e, and the v or w, at which it holds.
 pub fn exponents_of(pack: &Pack, s: Single) -> u64
-    requires { s.to ≤ range_room }
     ensures { (result ≡ values_of (test (relation_by pack.now.low pack.now.high s)) (suc max_exponent)) × (result < 32_768) }
 {
     values_of(pack, s, EXPONENTS)
 }
 
 pub fn places_of(pack: &Pack, s: Single) -> u64
-    requires { s.to ≤ range_room }
     ensures { (result ≡ values_of (test (relation_by pack.now.low pack.now.high s)) (suc max_places)) × (result < 1_024) }
 {
     values_of(pack, s, PLACES)
@@ -62,7 +60,6 @@ pub fn places_of(pack: &Pack, s: Single) -> u64
 
 // Whether it holds at 0, as a bit.
 pub fn zero_of(pack: &Pack, s: Single) -> u64
-    requires { s.to ≤ range_room }
     ensures { (result ≡ bit (test (relation_by pack.now.low pack.now.high s) 0)) × (result ≤ 1) }
 {
     if holds_of(pack, s, 0) { 1 } else { 0 }

@@ -78,7 +78,6 @@ fn any_digit(e: u64, v: u64, w: u64, flags: u64) -> u64
 
 // The profile of a relation, by its letter.
 fn relation_profile(pack: &Pack, s: Single) -> u64
-    requires { s.to ≤ range_room }
     ensures { result ≡ profile_of (relation_by pack.now.low pack.now.high s ∷ []) }
 {
     match s.operand {

@@ -16,7 +16,7 @@ use pack_rules::{Pack, Single, letter};
 
 // What the relation says of the remainder y, or of the value y where it has no modulus.
 fn listed_run(pack: &Pack, s: Single, y: u64) -> Run
-    requires { (s.to ≤ range_room) × (y ≤ cap) }
+    requires { y ≤ cap }
     ensures alike { Alike (listed (relation_by pack.now.low pack.now.high s)) y result.says result.stop }
     ensures near { result.stop ≤ far }
 {
@@ -29,7 +29,7 @@ fn listed_run(pack: &Pack, s: Single, y: u64) -> Run
 
 // Whether it holds of the value x.
 pub fn holds_of(pack: &Pack, s: Single, x: u64) -> bool
-    requires { (x ≤ cap) × (s.to ≤ range_room) }
+    requires { x ≤ cap }
     ensures { result ≡ test (relation_by pack.now.low pack.now.high s) x }
 {
     let rest = x.checked_rem(u64::from(s.modulus)).unwrap_or(x);
@@ -106,7 +106,7 @@ fn upwards_by(y: u64, s: u64) -> u64
 pub fn own_run(pack: &Pack, q: Query, level: usize, s: Single, p: u64) -> Run
     requires fit { Fit q }
     requires room { Room q p }
-    requires in_room { (s.to ≤ range_room) × (level < 9) × (level ≡ tier q (relation_by pack.now.low pack.now.high s)) }
+    requires level { (level < 9) × (level ≡ tier q (relation_by pack.now.low pack.now.high s)) }
     ensures alike { Alike (own_one q level (relation_by pack.now.low pack.now.high s)) p result.says result.stop }
     ensures near { result.stop ≤ far }
 {
@@ -120,7 +120,7 @@ pub fn own_run(pack: &Pack, q: Query, level: usize, s: Single, p: u64) -> Run
 
 // Whether x passes what the relation asks of it.
 pub fn passes_of(pack: &Pack, q: Query, s: Single, x: u64) -> bool
-    requires { Room q x × (s.to ≤ range_room) }
+    requires { Room q x }
     ensures { result ≡ passes q (relation_by pack.now.low pack.now.high s) x }
 {
     let k = factor_of(q, s.operand);

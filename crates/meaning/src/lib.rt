@@ -51,7 +51,6 @@ fn in_ranges(pack: &Pack, from: usize, to: usize, x: u64) -> bool
 
 // The relation holds.
 fn relation_holds(pack: &Pack, s: Single, x: Number) -> bool
-    requires { s.to ≤ range_room }
     ensures { result ≡ holds (relation_by pack.now.low pack.now.high s) x }
 {
     if !is_whole(s.operand, x) {

@@ -4,7 +4,8 @@ use Rattle.pack_rules.specs.Room.{range_room, relation_room, clause_room}
 use Rattle.pack_rules.specs.Syntax.{Range, Relation, Rule}
 use Rattle.pack_rules.specs.declared.Pack.{Pack}
 use Rattle.pack_rules.specs.Held.{keyword_of}
-use Rattle.pack_rules.specs.declared.Single.{Single}
+use Rattle.std.proofs.Math.Nat.{min-le_right}
+use Rattle.pack_rules.specs.declared.single.Single.{Single}
 
 -- the n elements g from, g (from + 1), ..
 unfoldable pub stretch : {A : Type 0} → (ℕ → A) → ℕ → ℕ → List A
@@ -38,6 +39,7 @@ single_at columns j =
       negated = eqb (get_or columns (4 * j + 2) 0) 1;
       from = ranges_from_at columns j;
       to = min (end_at columns j) range_room;
+      in_room = min-le_right (end_at columns j) range_room;
     }
 
 -- the relation of these numbers

@@ -12,6 +12,9 @@ ghost use Rattle.pack_rules.specs.Held.{held_rules};
 ghost use Rattle.pack_rules.specs.Stretch.{start_at, end_at, ranges_from_at, single_at};
 
 pub mod letter;
+mod single;
+
+pub use single::Single;
 
 pub const RANGE_ROOM: usize = 2048;
 
@@ -82,17 +85,6 @@ pub fn stop_at(ends: &[usize], k: usize, room: usize) -> usize
     ends.get(k).copied().unwrap_or(0).min(room)
 }
 
-// A relation's numbers: its operand's letter, its modulus, whether it is `!=`, and where its ranges
-// begin and end.
-#[derive(Clone, Copy)]
-pub struct Single {
-    pub operand: u32,
-    pub modulus: u32,
-    pub negated: bool,
-    pub from: usize,
-    pub to: usize,
-}
-
 // Where the ranges of the relation j end.
 fn end_at(pack: &Pack, j: usize) -> usize
     requires { j < relation_room }
@@ -115,8 +107,7 @@ pub fn from_at(pack: &Pack, j: usize) -> usize
 // The relation j's numbers.
 pub fn single_at(pack: &Pack, j: usize) -> Single
     requires { j < relation_room }
-    ensures value { result ≡ single_at pack.now.columns j }
-    ensures in_room { result.to ≤ range_room }
+    ensures { result ≡ single_at pack.now.columns j }
 {
     Single {
         operand: pack.columns[4 * j],

@@ -4,7 +4,7 @@ use mathlib.Core.List.{[], ◌∷◌}
 use mathlib.Core.Logic.{inl, inr}
 use native.Mathlib.Omega.{arith}
 use Rattle.pack_rules.specs.Stretch.{relation_by, table_of}
-use Rattle.pack_rules.specs.declared.Single.{Single}
+use Rattle.pack_rules.specs.declared.single.Single.{Single}
 use Rattle.check_laws.specs.Profile.{profile_of}
 use Rattle.check_profile.proofs.Meeting.{met_none, met_more}
 use Rattle.check_profile.proofs.clause_profile.Goals as goal
@@ -18,4 +18,4 @@ loop-j-preserved c =
     let T = table_of a.pack.now in
     let l = c.loop-j in
     let r = c.relation_profile-p in
-    (omega (arith, l.invariant.0), inl (omega (arith, c.loop-j-test.true)), met_more T a.from l.j l.p r.result _ l.invariant.0 l.invariant.2 (r.ensures ∙ ap (λ (s : Single). profile_of (relation_by a.pack.now.low a.pack.now.high s ∷ [])) c.single_at.ensures.value) refl)
+    (omega (arith, l.invariant.0), inl (omega (arith, c.loop-j-test.true)), met_more T a.from l.j l.p r.result _ l.invariant.0 l.invariant.2 (r.ensures ∙ ap (λ (s : Single). profile_of (relation_by a.pack.now.low a.pack.now.high s ∷ [])) c.single_at.ensures) refl)

@@ -15,12 +15,12 @@ returns-then-k-eq0 c =
 pub overflow_mul-x : goal.overflow_mul-x
 overflow_mul-x c =
     let a = c.args in
-    omega (arith, room_factor a.q a.x a.s.operand c.factor_of-k.result c.requires.0 c.factor_of-k.ensures)
+    omega (arith, room_factor a.q a.x a.s.operand c.factor_of-k.result c.requires c.factor_of-k.ensures)
 
 pub holds_of-requires : goal.holds_of-requires
 holds_of-requires c =
     let a = c.args in
-    (room_factor a.q a.x a.s.operand c.factor_of-k.result c.requires.0 c.factor_of-k.ensures, c.requires.1)
+    room_factor a.q a.x a.s.operand c.factor_of-k.result c.requires c.factor_of-k.ensures
 
 pub returns-else-k-eq0 : goal.returns-else-k-eq0
 returns-else-k-eq0 c =

@@ -3,7 +3,7 @@ use Rattle.pack_rules.specs.Stretch.{single_at, relation_by, table_of}
 use native.Mathlib.Omega.{arith}
 use mathlib.Core.Path.{sym, ap, ◌∙◌}
 use Rattle.pack_rules.specs.Syntax.{Relation}
-use Rattle.pack_rules.specs.declared.Single.{Single}
+use Rattle.pack_rules.specs.declared.single.Single.{Single}
 use Rattle.meaning.proofs.Meanings.{all_failed, all_next, all_passed}
 use Rattle.check_laws.specs.Fast.{passes}
 use Rattle.check_runs.specs.Kept.{size_of}
@@ -33,7 +33,7 @@ returns-then-not-passes_of c =
     let a = c.args in
     let T = table_of a.pack.now in
     let l = c.loop-k in
-    let e = c.passes_of.ensures ∙ ap (λ (s : Single). passes a.q (relation_by a.pack.now.low a.pack.now.high s) a.x) (c.single_at.ensures.value ∙ ap (single_at a.pack.now.columns) c.place_of.ensures.value) in
+    let e = c.passes_of.ensures ∙ ap (λ (s : Single). passes a.q (relation_by a.pack.now.low a.pack.now.high s) a.x) (c.single_at.ensures ∙ ap (single_at a.pack.now.columns) c.place_of.ensures.value) in
     sym (sym l.invariant ∙ all_failed (λ (r : Relation). passes a.q r a.x) (relation_of T a.s) l.k (size_of a.s) (omega (arith, c.size_of-k-end.ensures, c.loop-k-test.true)) (sym e ∙ c.if-not-passes_of.true))
 
 pub loop-k-preserved : goal.loop-k-preserved
@@ -41,7 +41,7 @@ loop-k-preserved c =
     let a = c.args in
     let T = table_of a.pack.now in
     let l = c.loop-k in
-    let e = c.passes_of.ensures ∙ ap (λ (s : Single). passes a.q (relation_by a.pack.now.low a.pack.now.high s) a.x) (c.single_at.ensures.value ∙ ap (single_at a.pack.now.columns) c.place_of.ensures.value) in
+    let e = c.passes_of.ensures ∙ ap (λ (s : Single). passes a.q (relation_by a.pack.now.low a.pack.now.high s) a.x) (c.single_at.ensures ∙ ap (single_at a.pack.now.columns) c.place_of.ensures.value) in
     (sym (all_next (λ (r : Relation). passes a.q r a.x) (relation_of T a.s) l.k (size_of a.s) (omega (arith, c.size_of-k-end.ensures, c.loop-k-test.true)) (sym e ∙ c.if-not-passes_of.false)) ∙ l.invariant)
 
 pub returns : goal.returns

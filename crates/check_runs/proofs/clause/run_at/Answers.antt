@@ -3,7 +3,7 @@ use native.Mathlib.Omega.{arith}
 use Prim.Native.Nat.{ℕ}
 use mathlib.Core.Path.{sym, ap, subst, ◌∙◌}
 use Rattle.pack_rules.specs.Stretch.{single_at, relation_by, table_of, relation_at}
-use Rattle.pack_rules.specs.declared.Single.{Single}
+use Rattle.pack_rules.specs.declared.single.Single.{Single}
 use Rattle.check_laws.specs.Seek.{Alike}
 use Rattle.check_laws.specs.Levels.{own_one}
 use Rattle.check_relation.specs.Runs.{tier}
@@ -39,7 +39,7 @@ returns c =
     let a = c.args in
     let T = table_of a.pack.now in
     let r = c.own_run-r.result in
-    let e = c.single_at.ensures.value ∙ ap (single_at a.pack.now.columns) c.place_of.ensures.value in
+    let e = c.single_at.ensures ∙ ap (single_at a.pack.now.columns) c.place_of.ensures.value in
     let f : Alike (own_one a.q a.level (relation_of T a.s a.k)) a.p r.says r.stop = subst (λ (s : Single). Alike (own_one a.q a.level (relation_by a.pack.now.low a.pack.now.high s)) a.p r.says r.stop) e c.own_run-r.ensures.alike in
     record {
       alike = f;
