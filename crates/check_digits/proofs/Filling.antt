@@ -1,46 +1,36 @@
 -- Values as bits, one after the other.
-use mathlib.Core.Path.{◌≡◌, sym, ap, subst, ◌∙◌}
+use mathlib.Core.Path.{◌≡◌, ap, ◌∙◌}
 use mathlib.Core.Bool.{Bool, true, false}
-use Prim.Native.Nat.{ℕ, ◌+◌, ◌*◌, ◌^◌, ◌≤◌, ◌<◌}
+use Prim.Native.Nat.{ℕ, ◌+◌, ◌*◌, ◌%◌, ◌^◌, ◌≤◌, ◌<◌}
 use native.Mathlib.Omega.{arith}
 use native.Mathlib.Nat.{pow-suc}
 use native.Mathlib.Numerals.{add-one}
+use lib.Bits.{bit_or, or_shifted_r}
 use lib.Pow.{pow_mono}
-use Rattle.select.specs.Select.{bit}
-use Rattle.select.proofs.Masks.{mask_none, mask_more, mask_fits}
+use Rattle.select.proofs.Masks.{mask_more, mask_fits}
 use Rattle.check_laws.specs.Profile.{values_of}
 
--- the bits of the values below x, and that of x itself
-pub record SoFar (P : ℕ → Bool) (x mask place : ℕ) : Type 0 where
-  pub bits : mask ≡ values_of P x
-  pub next : place ≡ 2 ^ x
+-- a bit above all others is added
+pub or_above : (mask x m : ℕ) → x < 15 → mask < 2 ^ x → m ≡ bit_or mask ((1 * 2 ^ x) % 2 ^ 64) → m ≡ mask + 2 ^ x
+or_above mask x m few h e =
+    let l : 2 ^ x ≤ 16384 = pow_mono {i = x} {j = 14} (omega arith) in
+    let f : (1 * 2 ^ x) % 2 ^ 64 ≡ 1 * 2 ^ x = omega (arith, l) in
+    e ∙ ap (bit_or mask) f ∙ or_shifted_r 1 x mask h ∙ omega arith
 
-module _ (P : ℕ → Bool) where
-  pub so_far_none : (x mask place : ℕ) → x ≡ 0 → mask ≡ 0 → place ≡ 1 → SoFar P x mask place
-  so_far_none x mask place e f g = record { bits = f ∙ mask_none P ∙ ap (values_of P) (sym e); next = g ∙ ap (λ (k : ℕ). 2 ^ k) (sym e) }
+-- the bits of the values below x, then that of x too
+module _ (x mask m : ℕ) (h : mask < 2 ^ x) where
+  pub on_lt : x < 15 → m ≡ bit_or mask ((1 * 2 ^ x) % 2 ^ 64) → m < 2 ^ (x + 1)
+  on_lt few e = rw (add-one x) (omega (arith, h, or_above mask x m few h e, pow-suc 2 x))
 
-  module _ (x mask place : ℕ) (s : SoFar P x mask place) where
-    pub so_far_lt : mask < place
-    so_far_lt = subst (λ (y : ℕ). mask < y) (sym s.next) (mask_fits P x mask s.bits)
+  pub off_lt : m ≡ mask → m < 2 ^ (x + 1)
+  off_lt e = rw (add-one x) (omega (arith, h, e, pow-suc 2 x))
 
-    pub so_far_room : x < 15 → place ≤ 16384
-    so_far_room h = subst (λ (y : ℕ). y ≤ 16384) (sym s.next) (pow_mono {i = x} {j = 14} (omega arith))
+  module _ (P : ℕ → Bool) (s : mask ≡ values_of P x) where
+    pub on_more : true ≡ P x → x < 15 → m ≡ bit_or mask ((1 * 2 ^ x) % 2 ^ 64) → m ≡ values_of P (x + 1)
+    on_more on few e = mask_more P x true mask m s on (or_above mask x m few h e ∙ omega arith)
 
-    pub so_far_more : (on : Bool) (mask' place' : ℕ) → on ≡ P x → mask' ≡ mask + bit on * place → place' ≡ place * 2 → SoFar P (x + 1) mask' place'
-    so_far_more on mask' place' e f g =
-        record {
-          bits = mask_more P x on mask mask' s.bits e (f ∙ ap (λ (y : ℕ). mask + bit on * y) s.next);
-          next = g ∙ ap (λ (y : ℕ). y * 2) s.next ∙ rw (add-one x) (sym (pow-suc 2 x));
-        }
-
-    pub so_far_all : (n : ℕ) → x ≡ n → mask ≡ values_of P n
-    so_far_all n e = s.bits ∙ ap (values_of P) e
+    pub off_more : false ≡ P x → m ≡ mask → m ≡ values_of P (x + 1)
+    off_more off e = mask_more P x false mask m s off (omega (arith, e))
 
 pub values_lt : (P : ℕ → Bool) (n m : ℕ) → m ≡ values_of P n → m < 2 ^ n
 values_lt P n m e = mask_fits P n m e
-
-pub on_is : (b : Bool) (mask place : ℕ) → b ≡ true → mask + place ≡ mask + bit b * place
-on_is b mask place e = rw e (omega arith)
-
-pub off_is : (b : Bool) (mask place : ℕ) → b ≡ false → mask ≡ mask + bit b * place
-off_is b mask place e = rw e (omega arith)

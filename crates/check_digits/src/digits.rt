@@ -5,7 +5,7 @@ ghost use Rattle.pack_rules.specs.Room.{range_room};
 ghost use Rattle.pack_rules.specs.Stretch.{ranges_in, relation_by};
 ghost use Rattle.check_laws.specs.Profile.{values_of, round, reaches, spares, ends_in};
 
-use crate::values::with_bit;
+use crate::values::bits_where;
 use pack_rules::{Pack, Single};
 
 // Every digit.
@@ -60,13 +60,7 @@ fn is_spared(a: u32, b: u32, m: u32, d: u64) -> bool
 fn spared_digits(a: u32, b: u32, m: u32) -> u64
     ensures { (result ≡ values_of (λ (d : ℕ). spares m d (record { low = a; high = b })) 10) × (result < 1_024) }
 {
-    let mut mask: u64 = 0;
-    let mut place: u64 = 1;
-    for d in 0..10 {
-        mask = with_bit(mask, place, is_spared(a, b, m, d));
-        place *= 2;
-    }
-    mask
+    bits_where(10, |d| is_spared(a, b, m, d))
 }
 
 // The same; a range that ends before the last ten remainders spares each digit.
