@@ -1,8 +1,8 @@
 // A pack's clauses, each looked at once before they are joined in pairs: where they stand, their profiles,
 // and the floors of the long ones.
 //
-// Crate check_laws has the definitions (specs/Profile.antt, specs/Floors.antt). A pack's arrays are lent one
-// by one. The entries are fill of module profiled, fill and pair_floors of module floors, and the functions
+// Crate check_laws has the definitions (specs/Profile.antt, specs/Floors.antt). The
+// entries are fill of module profiled, fill and pair_floors of module floors, and the functions
 // of module ends.
 #![tactic(auto)]
 

@@ -1,8 +1,8 @@
 // What a relation leaves, as bits: the e, the v or w at which it holds, and the last digits of the
 // numbers that it may hold of.
 //
-// Crate check_laws has the definitions (specs/Profile.antt). A pack's arrays are lent one by one. The
-// entries are exponents_of, places_of, zero_of, is_free and between of module values, and digits_of of
+// Crate check_laws has the definitions (specs/Profile.antt). The entries are
+// bits_where, exponents_of, places_of, zero_of, is_free and between of module values, and digits_of of
 // module digits.
 #![tactic(auto)]
 

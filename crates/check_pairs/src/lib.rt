@@ -1,8 +1,8 @@
 // The pack check: the first two rules that one admitted number meets, with the least such number.
 //
 // Crate check_laws has the definition and its laws; crate check_clauses looks at each clause once, crate
-// check_search finds the least number of two clauses joined. Below the entry the pack's arrays are lent
-// one by one, with its clauses' profiles and the floors of its long ones. The entry is check.
+// check_search finds the least number of two clauses joined. Below the entry the pack is lent with its
+// clauses' profiles and the floors of its long ones. The entry is check.
 #![tactic(auto)]
 
 mod first;
@@ -17,7 +17,7 @@ use check_clauses::{ClauseFloors, PerClause, floors as clause_floors, profiled};
 use check_laws::Clash;
 use pack_rules::{CLAUSE_ROOM, Pack, RULE_ROOM};
 
-// The check of the first `count` rules in a parsed pack's arrays.
+// The check of a parsed pack.
 pub fn check(pack: &Pack) -> Result<(), Clash>
     ensures { result ≡ check_of (held_rules pack.now) }
 {

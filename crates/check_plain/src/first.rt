@@ -13,7 +13,7 @@ use check_laws::{Clash, LaterClash};
 use pack_rules::Pack;
 
 // The first of the rules behind the rule p, below n, that clashes with it; n where none does. Crate
-// check_pairs has such a walk of its own: the two engines of the check share no code.
+// check_pairs has such a walk of its own, over its own search.
 fn later_clash(pack: &Pack, p: usize, n: usize) -> LaterClash
     requires { (p < n) × (n ≤ rule_room) }
     ensures { ((rest : Result (Unit {0}) Clash) → against clash_of (p + 1) (p + 1 + 1) (bare_rule (table_of pack.now) pack.now.relations pack.now.clauses p) (stretch (bare_rule (table_of pack.now) pack.now.relations pack.now.clauses) (p + 1) (n - (p + 1))) rest ≡ answered p n result.at result.spot rest) × (result.at < n → result.spot.e ≤ max_exponent) × Proper result.spot }

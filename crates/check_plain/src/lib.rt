@@ -16,7 +16,7 @@ ghost use Rattle.check_laws.specs.Check.{check_of};
 use check_laws::Clash;
 use pack_rules::{Pack, RULE_ROOM};
 
-// The check of the first `count` rules in a parsed pack's arrays.
+// The check of a parsed pack.
 pub fn check(pack: &Pack) -> Result<(), Clash>
     ensures { result ≡ check_of (held_rules pack.now) }
 {

@@ -14,8 +14,8 @@ use decimal::{DigitValue, Places};
 use number::Number;
 use pack_rules::Pack;
 
-// No number: its e is past the largest. This and the walk over pairs of rules stand here a second time, since
-// the two engines of the check share no code.
+// No number: its e is past the largest. It stands here a second time, since this engine
+// shares none of the search of the other.
 pub fn nowhere() -> Witness
     ensures { (max_exponent < result.e) × Proper result }
 {

@@ -2,7 +2,7 @@
 //
 // A relation's ranges may stand in any order, overlap and repeat: one pass over them tells whether a
 // value is in one of them, and up to where it is so. Crate check_laws has the levels of relations
-// (specs/Levels.antt). A pack's arrays are lent one by one. The entries are those of module relation:
+// (specs/Levels.antt). The entries are those of module relation:
 // holds_of for one value, own_run for a run at a level, passes_of for the number searched for, and
 // factor_of and level_of.
 #![tactic(auto)]

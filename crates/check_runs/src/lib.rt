@@ -19,7 +19,7 @@ pub struct Runs {
     pub stop: [u64; KEPT],
 }
 
-// The levels that a clause asks, and the level of each of its relations.
+// The levels that a clause asks, and the level of each of its relations. Of fixed size, since there is no heap.
 #[derive(Drop)]
 pub struct LevelMarks {
     pub asked: [bool; 9],

@@ -13,7 +13,7 @@ use check_laws::{Query, Span};
 use check_relation::relation;
 use pack_rules::{Pack, Single, single_at};
 
-// The level that is told of a relation that is not asked.
+// The level that is told of a relation that is not asked, past all levels: the definition `tier` has it.
 const UNASKED: usize = 9;
 
 // Marks the level l.

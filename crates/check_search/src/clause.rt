@@ -26,10 +26,7 @@ fn lowest_of(e: u64) -> u64
     requires { e ≤ max_exponent }
     ensures { result ≡ lowest e }
 {
-    if e == 0 {
-        return 0;
-    }
-    power(e)
+    if e == 0 { 0 } else { power(e) }
 }
 
 fn one_if(b: bool) -> u64
@@ -66,7 +63,7 @@ fn spot_of(e: u64, q: u64, i: u64) -> Witness
     Witness {
         e: e as u8,
         v: Places((q / limits::FRACTION_LIMIT) as u8),
-        i: i,
+        i,
         f: DigitValue(q % limits::FRACTION_LIMIT),
     }
 }
@@ -101,13 +98,7 @@ fn comes_first(p: u64, q: u64, i: u64) -> bool
     requires { q < fractions }
     ensures { result ≡ true → (c : List Relation) (e : ℕ) → p ≡ profile_of c → e ≤ max_exponent → q ≡ fraction_code true c → i ≡ integer_of true e c → kind_rank true e c ≤ kind_rank false e c }
 {
-    if check_profile::spares_n(p) {
-        return true;
-    }
-    if q == 0 {
-        return i < limits::INTEGER_LIMIT;
-    }
-    false
+    check_profile::spares_n(p) || (q == 0 && i < limits::INTEGER_LIMIT)
 }
 
 // The least number at e.

@@ -2,8 +2,8 @@
 // caller.
 //
 // Crate check_laws has the definition, the search that is run and the proof that they agree; crate
-// check_least searches for one number, crate check_fraction for v and f. A pack's arrays are lent one by
-// one. The entries are least_admitted and floors_of.
+// check_least searches for one number, crate check_fraction for v and f. The
+// entries are least_admitted and floors_of.
 #![tactic(auto)]
 
 mod clause;
@@ -49,9 +49,5 @@ pub fn floors_of(pack: &Pack, s: Span) -> Floors
     let whole = clause::integer_of(pack, s, true, 0, 0);
     let part = clause::integer_of(pack, s, false, 0, 0);
     let tail = alone_of(pack, s, 0);
-    Floors {
-        whole: whole,
-        part: part,
-        tail: tail,
-    }
+    Floors { whole, part, tail }
 }

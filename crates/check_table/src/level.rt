@@ -21,7 +21,7 @@ pub const LEVELS: usize = 7;
 
 // Stores the segments of level j behind those of the levels below it: what the relations of the level
 // allow, each from the first number on that passes the levels below. Returns the place behind the
-// last, or one past the room where it does not suffice.
+// last, or one past the room where it does not suffice: the clause `covers` speaks of places.
 fn fill_level(
     pack: &Pack,
     s: Span,

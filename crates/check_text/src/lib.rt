@@ -14,7 +14,7 @@ fn refusal_of(clash: Clash) -> Refusal
     Refusal::Rules(RulesRow::RulesClash(clash.pair, clash.witness))
 }
 
-// A pack that has to be read, into arrays that stand here and are lent from here.
+// A pack that has to be read: what is read of it stands here and is lent from here.
 fn check_read(pack: &[u8]) -> Result<(), Refusal>
     ensures { result ≡ check_pack pack.now }
 {

@@ -1,4 +1,4 @@
-// Stores what has been read of a pack into its arrays: a number at a place where a test holds, and a
+// Stores what has been read of a pack into its arrays: anything at a place where a test holds, and a
 // relation as a row of four numbers.
 //
 // specs/Stored.antt has the stores as definitions. A place behind the array's end stores nothing, so

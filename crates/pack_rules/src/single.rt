@@ -2,7 +2,7 @@
 ghost use Rattle.std.specs.Prelude.{◌≤◌};
 ghost use Rattle.pack_rules.specs.Room.{range_room};
 
-// A relation's numbers: its operand's letter, its modulus, whether it is `!=`, and where its ranges
+// A relation's numbers, as a pack's columns have them: its operand's letter, its modulus (0: none), whether it is `!=`, and where its ranges
 // begin and end.
 #[derive(Clone, Copy)]
 pub struct Single {

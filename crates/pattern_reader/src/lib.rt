@@ -35,7 +35,7 @@ pub enum Negative {
     Own(Span, Span),
 }
 
-// A subpattern: how many bytes its parts have, whether its suffix leaves no quote open, what its
+// A subpattern, of any bytes: how many its parts have, whether its suffix leaves no quote open, what its
 // number part asks for, and how often the marks stand in its affixes.
 #[derive(Clone, Copy)]
 pub struct Half {

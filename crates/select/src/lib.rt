@@ -1,6 +1,6 @@
 // Chooses the plural word of a number by the rules of a pack.
 //
-// The entries are select_held and meets_held, for a number and a parsed pack whose arrays are lent: a
+// The entries are select_held and meets_held, for a number and a parsed pack that is lent: a
 // pack that is kept serves many numbers without a copy of it. specs/Select.antt says which word the
 // rules that a number meets give.
 #![tactic(auto)]

@@ -9,7 +9,7 @@ ghost use Rattle.select_text.specs.Select.{select_number, select_rules, select_o
 use answer::{Keyword, Refusal};
 use number::Number;
 
-// By a pack that has to be read, into arrays that stand here and are lent from here.
+// By a pack that has to be read: what is read of it stands here and is lent from here.
 fn select_read(pack: &[u8], reading: Result<Number, Refusal>) -> Result<Keyword, Refusal>
     ensures { result ≡ select_rules (read_pack pack.now) reading }
 {

@@ -31,7 +31,7 @@ own_run-r-requires c =
     record {
       fit = p.fit;
       room = p.room;
-      in_room = (e.in_room, p.in_room.4, p.in_room.5 ∙ ap (λ (j : ℕ). tier a.q (relation_at T j)) (sym c.place_of.ensures.value) ∙ ap (λ (s : Single). tier a.q (relation_by a.pack.now.low a.pack.now.high s)) (sym e.value));
+      level = (p.in_room.4, p.in_room.5 ∙ ap (λ (j : ℕ). tier a.q (relation_at T j)) (sym c.place_of.ensures.value) ∙ ap (λ (s : Single). tier a.q (relation_by a.pack.now.low a.pack.now.high s)) (sym e));
     }
 
 pub returns : goal.returns

@@ -13,6 +13,3 @@ returns-then-spares_n c = λ t x e p h q i. n_unasked_first x e h (subst (λ (y 
 
 pub returns-then-q-eq0 : goal.returns-then-q-eq0
 returns-then-q-eq0 c = λ t x e p h q i. no_places_first x e c.args.i (sym q ∙ c.if-q-eq0.true) i (ltb-true c.args.i (10 ^ max_digits) t)
-
-pub returns : goal.returns
-returns c = λ t. absurd (false≢true t)
