@@ -1,6 +1,5 @@
 -- `check_search::clause::comes_first`: n is not asked, or there are no places.
 use mathlib.Core.Path.{sym, subst, ◌∙◌}
-use mathlib.Core.Bool.{false≢true}
 use Prim.Native.Nat.{ℕ, ◌^◌, ◌<◌}
 use borrow.Author.Tests.{not-true, ltb-true}
 use Rattle.number.specs.Limits.{max_digits}
