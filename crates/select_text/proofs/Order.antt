@@ -1,13 +1,12 @@
 -- Selection tests the pack, then the number, then 27.
 use Rattle.std.specs.Prelude.{Err, Ok, Result}
-use mathlib.Core.Path.{◌≡◌, refl, sym, ap, ◌∙◌}
+use mathlib.Core.Path.{◌≡◌, refl, ap}
 use mathlib.Core.Bool.{Bool, true, false}
 use mathlib.Core.List.{List, [], ◌∷◌, ◌++◌}
 use Prim.Native.Nat.{ℕ, ◌≤◌, ◌<◌}
 use lib.Dec.{eqb}
 use lib.ListN.{length}
 use Rattle.decimal.specs.Digits.{begins, run}
-use Rattle.answer.specs.declared.Keyword.TheVariants.{Other}
 use Rattle.answer.specs.declared.Refusal.{Refusal}
 use Rattle.number.specs.Limits.{max_bytes}
 use Rattle.number.specs.Grammar.{sign_text}
@@ -27,11 +26,8 @@ use Rattle.select_text.specs.Select.{select_number, select_rules, select_of}
 -- ---- the pack that is `other:` alone
 
 -- it gives every number `other`, and what is no number its refusal
-pub bare_word : (pack number : List ℕ) (x : Number) → is_bare pack ≡ true → read_number number ≡ Ok x → Ok Other ≡ select_of pack number
-bare_word pack number x e n = sym (ap (λ (a : PackAnswer). select_rules a (read_number number)) (bare_read pack e) ∙ ap (select_number (bare_rule ∷ [])) n)
-
-pub bare_unread : (pack number : List ℕ) (f : Refusal) → is_bare pack ≡ true → read_number number ≡ Err f → Err f ≡ select_of pack number
-bare_unread pack number f e n = sym (ap (λ (a : PackAnswer). select_rules a (read_number number)) (bare_read pack e) ∙ ap (select_number (bare_rule ∷ [])) n)
+pub bare_answer : (pack number : List ℕ) → is_bare pack ≡ true → select_of pack number ≡ select_number (bare_rule ∷ []) (read_number number)
+bare_answer pack number e = ap (λ (a : PackAnswer). select_rules a (read_number number)) (bare_read pack e)
 
 -- ---- the order of the tests
 

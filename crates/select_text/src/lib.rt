@@ -25,8 +25,7 @@ pub fn select(pack: &[u8], number: &[u8]) -> Result<Keyword, Refusal>
 {
     let reading = number_text::read_number(number);
     if pack_bare::is_bare(pack) {
-        reading?;
-        return Ok(Keyword::Other);
+        return reading.map(|_| Keyword::Other);
     }
     select_read(pack, reading)
 }
