@@ -1,9 +1,9 @@
-// A pack's clauses, each looked at once before they are joined in pairs: where they stand, their profiles,
-// and the floors of the long ones.
+// A pack's clauses, each looked at once before they are joined in pairs: where the last one ends, their
+// profiles, and the floors of the long ones.
 //
 // Crate check_laws has the definitions (specs/Profile.antt, specs/Floors.antt). The
-// entries are fill of module profiled, fill and pair_floors of module floors, and the functions
-// of module ends.
+// entries are fill of module profiled, fill and pair_floors of module floors, and clauses_end of module
+// ends.
 #![tactic(auto)]
 
 pub mod ends;

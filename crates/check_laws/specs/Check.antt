@@ -64,11 +64,11 @@ least_rank P = seek (found P) ranks 0
 abbrev pub clash_of : Rule → Rule → ℕ
 clash_of a b = least_rank (λ (x : Number). both (meets a x) (meets b x))
 
--- the answer at the pair p, q, where k is the rank of its least number
 -- the answer that names two rules and a number that meets both
 abbrev pub clashing : Pair → Witness → Result (Unit {0}) Clash
 clashing pair x = Err (record { pair = pair; witness = x })
 
+-- the answer at the pair p, q, where k is the rank of its least number
 abbrev pub named : ℕ → ℕ → ℕ → Result (Unit {0}) Clash → Result (Unit {0}) Clash
 named p q k rest = if ltb k ranks then clashing (record { first = p; second = q }) (ranked k) else rest
 

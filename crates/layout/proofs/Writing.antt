@@ -6,7 +6,7 @@ use native.Mathlib.Omega.{arith}
 use native.Mathlib.Numerals.{add-one}
 use borrow.Author.Tests.{lt-ltb, le-ltb}
 use lib.Dec.{ltb}
-use lib.ListN.{length, get_or, drop, length-drop}
+use lib.ListN.{length, get_or, drop, drop_of_length-le, length-drop}
 use lib.Seq.{drop-cons}
 use Rattle.std.specs.Prelude.{if◌then◌else◌}
 use Rattle.decimal.proofs.Choices.{tested}
@@ -30,6 +30,9 @@ place nought g p q d i = spell nought (get_or d i 0) ++ (if mark p q (length d -
 pub grouped_step : (nought : ℕ) (g : List ℕ) (p q : ℕ) (d : List ℕ) (i : ℕ) → i < length d
     → grouped nought g p q (drop i d) ≡ place nought g p q d i ++ grouped nought g p q (drop (i + 1) d)
 grouped_step nought g p q d i h = rw (drop-cons d i 0 h, length-drop (suc i) d, add-one, append_assoc)
+
+pub grouped_end : (nought : ℕ) (g : List ℕ) (p q : ℕ) (d : List ℕ) (i : ℕ) → length d ≤ i → grouped nought g p q (drop i d) ≡ []
+grouped_end nought g p q d i h = rw (drop_of_length-le d h)
 
 -- ---- the primary size
 

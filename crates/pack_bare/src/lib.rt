@@ -13,14 +13,13 @@ ghost use Rattle.pack_bare.specs.Bare.{same_texts, is_bare};
 
 use decimal::cut::{after, upto};
 use pack_grammar::MAX_BYTES;
-use pack_token::{piece_len, skip_white};
+use pack_token::{piece_len, same_text, skip_white};
 
 // The token at a place without white space is w.
-#[tactic(auto, using(pack_token::proofs::Spellings::pointwise_same))]
 fn token_is(s: &[u8], at: usize, w: &[u8]) -> bool
     ensures { result ≡ same (take (token_len (drop at s.now)) (drop at s.now)) w.now }
 {
-    upto(after(s, at), piece_len(s, at, 0)) == w
+    same_text(upto(after(s, at), piece_len(s, at, 0)), w)
 }
 
 // From a place on there is no token.

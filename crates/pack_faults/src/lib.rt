@@ -107,9 +107,9 @@ pub fn upper_row(v: u32, low: u32) -> Option<PackRow>
 pub fn mark_after(m: Mark, stop: usize, row: Option<PackRow>, at: usize) -> Mark
     ensures { result ≡ mark_after m stop row at }
 {
-    let at = Place(at);
-    Mark {
-        stop,
-        fault: m.fault.or(row.map(|row| Fault { row, at })),
-    }
+    let fault = match row {
+        Some(row) if m.fault.is_none() => Some(Fault { row, at: Place(at) }),
+        _ => m.fault,
+    };
+    Mark { stop, fault }
 }

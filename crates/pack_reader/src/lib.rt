@@ -3,8 +3,8 @@
 // `read_pack` goes once over the bytes, token by token: the walk says what may follow (21) and finds
 // 22 to 26; each relation, clause and rule is stored when the token behind it closes it. Crate
 // pack_columns has the stores, crate pack_verdict the answer at the end. specs/Board.antt says how a
-// token changes the arrays. The pack is the caller's, some 22 KB, and is lent: returned by value it
-// would be copied, which costs what reading a small pack does.
+// token changes the arrays. The pack is the caller's, some 22 KB, and is lent: answered by value beside
+// a refusal it would be copied, which costs what reading a small pack does.
 #![tactic(auto)]
 
 ghost use Rattle.std.specs.Prelude.{◌≡◌};

@@ -3,6 +3,7 @@
 #![tactic(auto)]
 
 use answer::Refusal;
+use pack_rules::Pack;
 use std::io;
 use std::io::Read;
 
@@ -17,9 +18,9 @@ fn print_refusal(rt: &impl Print, r: Refusal) -> io::Result<()> {
     println!(rt)
 }
 
-fn print_reading(rt: &impl Print, text: &[u8]) -> io::Result<()> {
-    let mut pack = pack_rules::empty();
-    match pack_reader::read_pack(text, &mut pack) {
+// The reader takes a pack whatever it held, so that one serves all lines.
+fn print_reading(rt: &impl Print, text: &[u8], pack: &mut Pack) -> io::Result<()> {
+    match pack_reader::read_pack(text, pack) {
         Ok(()) => {
             let count = pack.count;
             println!(rt; "ok {count}")
@@ -30,8 +31,9 @@ fn print_reading(rt: &impl Print, text: &[u8]) -> io::Result<()> {
 
 // Each table goes over its own lines: what it does with one is all that there is to it.
 fn print_all(rt: &impl Print, input: &[u8]) -> io::Result<()> {
+    let mut pack = pack_rules::empty();
     for line in input.split_inclusive(|b| *b == b'\n') {
-        print_reading(rt, line.strip_suffix(b"\n").unwrap_or(line))?;
+        print_reading(rt, line.strip_suffix(b"\n").unwrap_or(line), &mut pack)?;
     }
     Ok(())
 }

@@ -5,7 +5,7 @@ use mathlib.Core.List.{List, [], ◌∷◌}
 use Prim.Native.Nat.{ℕ, ◌≤◌, ◌<◌}
 use native.Mathlib.Omega.{arith}
 use lib.Dec.{eqb}
-use lib.ListN.{length, get_or}
+use lib.ListN.{length, get_or, take}
 use borrow.Author.Tests.{eq-eqb, ne_eqb, eqb-true}
 use Rattle.std.specs.Cmp.Lexicographic.{pointwise}
 use Rattle.decimal.specs.Choice.{both}
@@ -64,6 +64,14 @@ pointwise_same [] [] = refl
 pointwise_same [] (y ∷ t) = refl
 pointwise_same (x ∷ s) [] = refl
 pointwise_same (x ∷ s) (y ∷ t) = tested (eqb x y) (λ e. rw e (pointwise_same s t)) (λ e. rw e)
+
+-- and what `starts_with` answers
+pub prefix_starts : (s w : List ℕ) → pointwise eqb w (take (length w) s) ≡ starts w s
+prefix_starts s [] = refl
+prefix_starts [] (x ∷ w) = refl
+prefix_starts (y ∷ s) (x ∷ w) =
+    tested (eqb x y) (λ e. rw (e, eq-eqb y x (sym (eqb-true x y e)), prefix_starts s w))
+    (λ e. rw (e, ne_eqb y x (λ k. not_both (eq-eqb x y (sym k)) e)))
 
 -- what a text begins with is no longer than it
 pub starts_le : (w s : List ℕ) → starts w s ≡ true → length w ≤ length s

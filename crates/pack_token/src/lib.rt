@@ -5,10 +5,27 @@
 #![tactic(auto)]
 
 ghost use Rattle.std.specs.Prelude.{◌≡◌, ltb, get_or, drop, if◌then◌else◌};
-ghost use Rattle.pack_token.specs.Token.{white_len, is_letter, letters, token_len, Skipped};
+ghost use Rattle.pack_token.specs.Spelling.{same, starts, length_of};
+ghost use Rattle.pack_token.specs.Token.{whites, white_len, is_letter, letters, token_len, Skipped};
 
 use decimal::cut::after;
 use decimal::scan::digit_run;
+
+// The bytes of w stand at a place of s.
+#[tactic(auto, using(crate::proofs::Spellings::prefix_starts))]
+pub fn same_at(s: &[u8], at: usize, w: &[u8]) -> bool
+    ensures { result ≡ starts w.now (drop at s.now) }
+{
+    after(s, at).starts_with(w)
+}
+
+// The text t is w.
+#[tactic(auto, using(crate::proofs::Spellings::pointwise_same))]
+pub fn same_text(t: &[u8], w: &[u8]) -> bool
+    ensures { result ≡ same t.now w.now }
+{
+    t == w
+}
 
 // The first byte of a text, or 0.
 pub fn first_byte(s: &[u8]) -> u8
@@ -17,14 +34,25 @@ pub fn first_byte(s: &[u8]) -> u8
     s.first().copied().unwrap_or(0)
 }
 
-// How long the white space at a place is: one code point, or 0.
+// How long the white space of several bytes is that s begins with, or 0.
+fn wide_len(s: &[u8]) -> usize
+    ensures { result ≡ length_of (drop 6 whites) s.now }
+{
+    match s {
+        [0xC2, 0x85, ..] => 2,
+        [0xE2, 0x80, 0x8E | 0x8F | 0xA8 | 0xA9, ..] => 3,
+        _ => 0,
+    }
+}
+
+// How long the white space at a place is: one code point, or 0. Most bytes are told by the first arm or
+// the last.
 pub fn white_len(s: &[u8], at: usize) -> usize
     ensures { result ≡ white_len (drop at s.now) }
 {
     match after(s, at) {
         [b'\t'..=b'\r' | b' ', ..] => 1,
-        [0xC2, 0x85, ..] => 2,
-        [0xE2, 0x80, 0x8E | 0x8F | 0xA8 | 0xA9, ..] => 3,
+        [0x80..=0xFF, ..] => wide_len(after(s, at)),
         _ => 0,
     }
 }

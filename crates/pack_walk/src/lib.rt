@@ -237,21 +237,34 @@ fn at_dead(t: &[u8], at: usize, w: Walk) -> Step
     })
 }
 
-// What the token t at a place does; `keys`: the keyword numbers of the rules so far.
+// What the token t at a place does; `keys`: the keyword numbers of the rules so far. Each arm asks
+// next_phase of its own phase, so that one test of the phase serves both.
 pub fn step_after(t: &[u8], at: usize, keys: &[u8], w: Walk) -> Step
     ensures { result ≡ step_after t.now at keys.now w }
 {
-    let q = next_phase(w.phase, w.current.other, t);
-    match w.phase {
-        Phase::Name => at_name(q, t, at, keys, w),
-        Phase::Colon => at_colon(q, t, at, w),
-        Phase::Nothing => at_close(ends_bare(t), q, t, at, w),
-        Phase::Operand => at_operand(q, t, at, w),
-        Phase::ModulusOrSign | Phase::Sign => at_sign(q, t, at, w),
-        Phase::Modulus => at_modulus(q, t, at, w),
-        Phase::Value => at_value(q, t, at, w),
-        Phase::DotsOrMore | Phase::More => at_close(ends_relation(t), q, t, at, w),
-        Phase::Upper => at_upper(q, t, at, w),
+    let p = w.phase;
+    let other = w.current.other;
+    match p {
+        Phase::Name => at_name(next_phase(Phase::Name, other, t), t, at, keys, w),
+        Phase::Colon => at_colon(next_phase(Phase::Colon, other, t), t, at, w),
+        Phase::Nothing => {
+            let q = next_phase(Phase::Nothing, other, t);
+            at_close(ends_bare(t), q, t, at, w)
+        }
+        Phase::Operand => at_operand(next_phase(Phase::Operand, other, t), t, at, w),
+        Phase::ModulusOrSign => at_sign(next_phase(Phase::ModulusOrSign, other, t), t, at, w),
+        Phase::Modulus => at_modulus(next_phase(Phase::Modulus, other, t), t, at, w),
+        Phase::Sign => at_sign(next_phase(Phase::Sign, other, t), t, at, w),
+        Phase::Value => at_value(next_phase(Phase::Value, other, t), t, at, w),
+        Phase::DotsOrMore => {
+            let q = next_phase(Phase::DotsOrMore, other, t);
+            at_close(ends_relation(t), q, t, at, w)
+        }
+        Phase::Upper => at_upper(next_phase(Phase::Upper, other, t), t, at, w),
+        Phase::More => {
+            let q = next_phase(Phase::More, other, t);
+            at_close(ends_relation(t), q, t, at, w)
+        }
         Phase::Dead => at_dead(t, at, w),
     }
 }

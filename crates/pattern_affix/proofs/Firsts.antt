@@ -111,7 +111,7 @@ until_none b [] h = refl
 until_none b (x ∷ s) h = tested (eqb x b) (λ e. not_both (rw e) h) (λ e. rw e (ap suc (until_none b s (rw e at h))))
 
 -- a text without the mark's byte
-marks_none : (m : Mark) (q n : Bool) (k : ℕ) (s : List ℕ) → until (mark_byte m) s ≡ length s → marks m (items_from q n k s) ≡ 0
+pub marks_none : (m : Mark) (q n : Bool) (k : ℕ) (s : List ℕ) → until (mark_byte m) s ≡ length s → marks m (items_from q n k s) ≡ 0
 marks_none m q n k [] h = refl
 marks_none m q n (suc k) (b ∷ s) h =
     tested (eqb b (mark_byte m)) (λ e. absurd (some (rw e at h))) (λ e. marks_none m q n k s (less (rw e at h)))

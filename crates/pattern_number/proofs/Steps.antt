@@ -20,7 +20,7 @@ unit_ge n b = go (eqb b 35) (is_digit b)
     go false true = omega arith
     go false false = omega arith
 
-units_ge : (n : ℕ) (s : List ℕ) → n ≤ units_from n s
+pub units_ge : (n : ℕ) (s : List ℕ) → n ≤ units_from n s
 units_ge n [] = omega arith
 units_ge n (b ∷ s) = omega (arith, unit_ge n b, units_ge (unit n b) s)
 

@@ -1,6 +1,6 @@
 -- Selection tests the pack, then the number, then 27.
 use Rattle.std.specs.Prelude.{Err, Ok, Result}
-use mathlib.Core.Path.{◌≡◌, refl, ap}
+use mathlib.Core.Path.{◌≡◌, refl, sym, ap}
 use mathlib.Core.Bool.{Bool, true, false}
 use mathlib.Core.List.{List, [], ◌∷◌, ◌++◌}
 use Prim.Native.Nat.{ℕ, ◌≤◌, ◌<◌}
@@ -28,6 +28,9 @@ use Rattle.select_text.specs.Select.{select_number, select_rules, select_of}
 -- it gives every number `other`, and what is no number its refusal
 pub bare_answer : (pack number : List ℕ) → is_bare pack ≡ true → select_of pack number ≡ select_number (bare_rule ∷ []) (read_number number)
 bare_answer pack number e = ap (λ (a : PackAnswer). select_rules a (read_number number)) (bare_read pack e)
+
+pub by_bare : (pack : List ℕ) (r : Result Number Refusal) → is_bare pack ≡ true → select_number (bare_rule ∷ []) r ≡ select_rules (read_pack pack) r
+by_bare pack r e = sym (ap (λ (a : PackAnswer). select_rules a r) (bare_read pack e))
 
 -- ---- the order of the tests
 

@@ -141,7 +141,7 @@ pub fn find<'a>(house: &'a [u8], standard: &'a [u8], y: Symbol) -> &'a [u8]
 {
     locate(house, y)
         .or_else(|| locate(standard, y))
-        .unwrap_or(b"")
+        .unwrap_or(&standard[..0])
 }
 
 // The first byte of s, or 0.
