@@ -1,8 +1,8 @@
 -- Laws of the scans of a number part: what the library's words say of its bytes is what the definitions say.
-use mathlib.Core.Path.{◌≡◌, refl, ap, ◌∙◌}
+use mathlib.Core.Path.{◌≡◌, refl, sym, ap, ◌∙◌}
 use mathlib.Core.Bool.{Bool, true, false, not, cond, ◌&&◌}
 use mathlib.Core.List.{List, [], ◌∷◌, ◌++◌, reverse}
-use Prim.Native.Nat.{ℕ, suc, ◌+◌, ◌≤◌, ◌<◌}
+use Prim.Native.Nat.{ℕ, suc, ◌+◌, ◌-◌, ◌≤◌, ◌<◌}
 use native.Mathlib.Omega.{arith}
 use borrow.Author.Tests.{eqb-true, eqb-false, eq-eqb, ne_eqb, lt-ltb, ltb-true, ltb-false}
 use lib.Dec.{eqb, ltb}
@@ -12,8 +12,10 @@ use Rattle.std.specs.List.{filter, list_all, list_any, zip, prefix_len, position
 use Rattle.std.proofs.lemmas.List.{reverse-reverse, length-reverse}
 use Rattle.std.proofs.lemmas.Grind.{reverse_onto}
 use Rattle.decimal.specs.Digits.{is_digit}
-use Rattle.decimal.proofs.Choices.{tested}
-use Rattle.pattern_number.specs.Shape.{between, count, ordered, is_hash, apart, last}
+use Rattle.std.specs.Cmp.Lexicographic.{pointwise}
+use Rattle.std.specs.Prelude.{if◌then◌else◌}
+use Rattle.decimal.proofs.Choices.{choice, tested, not_both}
+use Rattle.pattern_number.specs.Shape.{between, count, ordered, is_hash, bad_comma, apart, last}
 
 -- ---- counts
 
@@ -55,14 +57,34 @@ ordered_is (b ∷ s) =
 abbrev pub two_commas : ℕ × ℕ → Bool
 two_commas p = eqb p.0 44 && eqb p.1 44
 
-pub apart_is : (s : List ℕ) → not (list_any two_commas (zip s (drop 1 s ++ (44 ∷ [])))) ≡ apart s
-apart_is [] = refl
-apart_is (b ∷ []) = tested (eqb b 44) (λ k. rw k) (λ k. rw k)
-apart_is (b ∷ c ∷ s) =
+-- a comma at the end, as `ends_with` finds it
+ends_same : (b : ℕ) → pointwise eqb (44 ∷ []) (b ∷ []) ≡ eqb b 44
+ends_same b = tested (eqb b 44) (λ k. rw (eqb-true b 44 k)) (λ k. rw (k, ne_eqb 44 b (λ e. not_both (eq-eqb b 44 (sym e)) k)))
+
+ends_less : (b c : ℕ) (s : List ℕ) → drop (length (b ∷ c ∷ s) - 1) (b ∷ c ∷ s) ≡ drop (length (c ∷ s) - 1) (c ∷ s)
+ends_less b c s =
+    let e : length (b ∷ c ∷ s) - 1 ≡ suc (length (c ∷ s) - 1) = omega arith in
+    rw e
+
+pub apart_ends : (s : List ℕ) → pointwise eqb (44 ∷ []) (drop (length s - 1) s) ≡ true → false ≡ apart s
+apart_ends [] h = not_both h refl
+apart_ends (b ∷ []) h = rw (sym (ends_same b) ∙ h)
+apart_ends (b ∷ c ∷ s) h =
     let z = ne_eqb (suc (length s)) 0 (λ k. omega arith) in
+    let r = apart_ends (c ∷ s) (ap (pointwise eqb (44 ∷ [])) (sym (ends_less b c s)) ∙ h) in
     tested (eqb b 44)
-    (λ k. tested (eqb c 44) (λ l. rw (k, z, l)) (λ l. rw (k, z, l) (rw l at (apart_is (c ∷ s)))))
-    (λ k. rw k (apart_is (c ∷ s)))
+    (λ k. tested (eqb c 44) (λ l. rw (k, z, l)) (λ l. rw (k, z, l) (rw l at r)))
+    (λ k. rw k r)
+
+pub apart_is : (s : List ℕ) → pointwise eqb (44 ∷ []) (drop (length s - 1) s) ≡ false → not (list_any two_commas (zip s (drop 1 s))) ≡ apart s
+apart_is [] h = refl
+apart_is (b ∷ []) h = rw (sym (ends_same b) ∙ h)
+apart_is (b ∷ c ∷ s) h =
+    let z = ne_eqb (suc (length s)) 0 (λ k. omega arith) in
+    let r = apart_is (c ∷ s) (ap (pointwise eqb (44 ∷ [])) (sym (ends_less b c s)) ∙ h) in
+    tested (eqb b 44)
+    (λ k. tested (eqb c 44) (λ l. rw (k, z, l)) (λ l. rw (k, z, l) (rw l at r)))
+    (λ k. rw k r)
 
 -- ---- the last comma, seen from the end
 

@@ -43,13 +43,12 @@ fn is_ordered(s: &[u8]) -> bool
         .all(|b| scan::is_digit(*b))
 }
 
-// Whether no comma of s is last, or adjacent to another: with one more comma behind s, none is
-// followed by another.
+// Whether no comma of s is last, or adjacent to another.
 fn are_apart(s: &[u8]) -> bool
     ensures { result ≡ apart s.now }
 {
-    let next = s.iter().skip(1).chain(b",");
-    !s.iter().zip(next).any(|(a, b)| *a == b',' && *b == b',')
+    let next = cut::after(s, 1);
+    !s.ends_with(b",") && !s.iter().zip(next).any(|(a, b)| *a == b',' && *b == b',')
 }
 
 fn whole_fits(s: &[u8]) -> bool
