@@ -13,9 +13,8 @@ use Rattle.std.proofs.lemmas.List.{reverse-reverse, length-reverse}
 use Rattle.std.proofs.lemmas.Grind.{reverse_onto}
 use Rattle.decimal.specs.Digits.{is_digit}
 use Rattle.std.specs.Cmp.Lexicographic.{pointwise}
-use Rattle.std.specs.Prelude.{if◌then◌else◌}
-use Rattle.decimal.proofs.Choices.{choice, tested, not_both}
-use Rattle.pattern_number.specs.Shape.{between, count, ordered, is_hash, bad_comma, apart, last}
+use Rattle.decimal.proofs.Choices.{tested, not_both}
+use Rattle.pattern_number.specs.Shape.{between, count, ordered, is_hash, apart, last}
 
 -- ---- counts
 

@@ -29,6 +29,7 @@ use Rattle.select_text.specs.Select.{select_number, select_rules, select_of}
 pub bare_answer : (pack number : List ℕ) → is_bare pack ≡ true → select_of pack number ≡ select_number (bare_rule ∷ []) (read_number number)
 bare_answer pack number e = ap (λ (a : PackAnswer). select_rules a (read_number number)) (bare_read pack e)
 
+-- the same of any reading
 pub by_bare : (pack : List ℕ) (r : Result Number Refusal) → is_bare pack ≡ true → select_number (bare_rule ∷ []) r ≡ select_rules (read_pack pack) r
 by_bare pack r e = sym (ap (λ (a : PackAnswer). select_rules a r) (bare_read pack e))
 
